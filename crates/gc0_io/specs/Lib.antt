@@ -1,0 +1,6 @@
+pub mod Causes
+pub mod Bytes
+pub mod Fetching
+pub mod Held
+pub mod Scripts
+pub mod Memory
