@@ -1,6 +1,6 @@
 -- What reads and writes do to bytes that may be told. This project's own.
 -- Each effect is an equation between the bytes before and after, as far as they are told.
-use Rattle.std.specs.Prelude.{◌≡◌, ℕ, ◌<◌, ◌≤◌, List, [], ◌++◌, length, take, Option, Some, None, Result, MatchResult, IfSome}
+use Rattle.std.specs.Prelude.{◌≡◌, ℕ, ◌<◌, ◌≤◌, List, [], length, take, Option, Result, MatchResult, IfSome}
 use Rattle.std.specs.Io.KnownBytes.{append_known, prepend_known}
 
 -- a write took the first bytes of the piece, and nothing at a fault

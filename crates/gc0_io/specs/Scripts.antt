@@ -1,5 +1,5 @@
 -- Which calls of a form in memory are to fail. This project's own.
-use Rattle.std.specs.Prelude.{ℕ, Bool, ◌==◌}
+use Rattle.std.specs.Prelude.{Bool, ◌==◌}
 use Rattle.std.specs.List.{list_any}
 use Rattle.gc0_io.specs.declared.script.Script.{Script}
 
