@@ -1,0 +1,69 @@
+#!/bin/sh
+# What the built program answers where the outside fails: files that aren't there, can't be
+# read or are too long, outputs that are full or closed; and texts that are as long as may be.
+here=$(cd "$(dirname "$0")/.." && pwd)
+run="$here/gradual"
+folder=$(mktemp -d)
+trap 'rm -rf "$folder"' EXIT
+cd "$folder" || exit 1
+failed=0
+
+# check NAME STATUS WANTED-ERR, with the status and the error output of the last run
+check() {
+    if [ "$status" = "$2" ] && [ "$(cat err)" = "$3" ]; then
+        echo "ok: $1"
+    else
+        failed=1
+        echo "WRONG: $1: status $status, '$(head -c 300 err)'; wanted $2, '$3'"
+    fi
+}
+
+printf 'int main() { printint(7); return 1; }\n' > good.c0
+"$run" run good.c0 >out 2>err; status=$?
+check "a program that returns" 0 "result 1"
+[ "$(cat out)" = 7 ] || { failed=1; echo "WRONG: its output"; }
+
+"$run" run none.c0 >out 2>err; status=$?
+check "a file that isn't there" 8 "absent none.c0"
+
+mkdir folder
+"$run" run folder >out 2>err; status=$?
+check "a folder as the file" 9 "read fault"
+
+head -c 262145 /dev/zero | tr '\0' ' ' > long.c0
+"$run" run long.c0 >out 2>err; status=$?
+check "a file past the limit" 7 "limit source"
+
+if [ -e /dev/full ]; then
+    "$run" run good.c0 >/dev/full 2>err; status=$?
+    check "a full device as the output" 10 "write fault"
+    "$run" run good.c0 >out 2>/dev/full; status=$?
+    : > err
+    check "a full device as the error output" 10 ""
+fi
+
+# The reader of the pipe ends before the program writes.
+{ sleep 0.2; "$run" run good.c0 2>err; echo $? > status.txt; } | true
+status=$(cat status.txt)
+check "a closed pipe as the output" 10 "write fault"
+
+# The longest sum that fits: a long sum counts as nesting that isn't built, at its 1,001st
+# operator, and must not end the program in another way.
+{ printf 'int main() { return 1'; i=0; head -c 262100 /dev/zero | tr '\0' 'x' | sed 's/xx/+1/g'; printf '; }'; } > sum.c0
+"$run" run sum.c0 >out 2>err; status=$?
+check "the longest sum that fits" 14 "not built 1:2022"
+
+{ printf 'int main() { return 1'; head -c 2000 /dev/zero | tr '\0' 'x' | sed 's/xx/+1/g'; printf '; }\n'; } > thousand.c0
+"$run" run thousand.c0 >out 2>err; status=$?
+check "a sum of 1,001 terms" 0 "result 1001"
+
+for token in '(' '-' '1' '+' 'x' '{' '}' ';' '=' '*' '@' '"'; do
+    head -c 262144 /dev/zero | tr '\0' "$token" > same.c0
+    "$run" run same.c0 >out 2>err; status=$?
+    check "a text of one token $token" 14 "not built 1:1"
+done
+
+"$run" run --steps=5 good.c0 >out 2>err; status=$?
+check "words that are no request" 64 "usage: run, full, check, explain, code, compare or self"
+
+exit $failed

@@ -1,0 +1,10 @@
+pub mod Lexing
+pub mod Failing
+pub mod Marks
+pub mod Operators
+pub mod Takes
+pub mod Fine
+pub mod Steps
+pub mod Exact
+pub mod Faults
+pub mod Ordered

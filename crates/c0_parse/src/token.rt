@@ -1,0 +1,58 @@
+use gc0_base::{Place, Word};
+use sqlite_items::Items;
+
+/// A keyword or a symbol that the grammar shows, or the end of an annotation's line.
+#[derive(Clone, Copy, Debug, PartialEq, Eq)]
+pub enum Fixed {
+    Int,
+    Return,
+    PrintInt,
+    Assert,
+    Open,
+    Close,
+    OpenBrace,
+    CloseBrace,
+    Semicolon,
+    Assign,
+    Plus,
+    Minus,
+    Star,
+    And,
+    Equal,
+    NotEqual,
+    Less,
+    LessEq,
+    Greater,
+    GreaterEq,
+    /// `//@`
+    Annotation,
+    /// The newline that ends an annotation.
+    LineEnd,
+}
+
+/// What a token is.
+#[derive(Debug, Drop)]
+pub enum Kind {
+    Known(Fixed),
+    Name(Items<u8>),
+    Number(Word),
+    /// What the grammar shows nowhere: another keyword, a number of another
+    /// form, or a byte that begins no token.
+    Foreign,
+    /// The end of the text.
+    End,
+}
+
+/// A token, and the place of its first byte.
+#[derive(Debug, Drop)]
+pub struct Token {
+    pub kind: Kind,
+    pub place: Place,
+}
+
+/// A token that the grammar fixes: a keyword or symbol, or the name `main`.
+#[derive(Clone, Copy, Debug, PartialEq, Eq)]
+pub enum Want {
+    Mark(Fixed),
+    Main,
+}

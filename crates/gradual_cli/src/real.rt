@@ -1,0 +1,140 @@
+ghost use Rattle.std.specs.Prelude.{None, ◌≡◌, ◌≤◌};
+ghost use Rattle.gc0_io.specs.Causes.{Rose};
+ghost use Rattle.gc0_io.specs.Fetching.{FetchesAtMost};
+
+use gc0_io::{Failed, Fetched, Files, Sink, Source};
+use sqlite_items::Items;
+use std::alloc::Global;
+use std::io::{ErrorKind, Read, Write};
+use std::rt;
+
+/// The files of the system. What they hold is not told.
+#[derive(Drop)]
+pub struct RealFiles<'a, R: rt::Files> {
+    rt: &'a R,
+    faults: u64,
+}
+
+impl<'a, R: rt::Files> RealFiles<'a, R> {
+    /// The files that this runtime may open.
+    pub fn new(rt: &'a R) -> Self {
+        RealFiles { rt, faults: 0 }
+    }
+
+    // Counts a fault.
+    fn fail(&mut self) -> Fetched
+        ensures failed { result ≡ Fetched.Failed }
+        ensures later { self.old.faults ≤ self.new.faults }
+        ensures rose { Rose self.old.faults self.new.faults }
+    {
+        self.faults = self.faults.saturating_add(1);
+        Fetched::Failed
+    }
+}
+
+impl<R: rt::Files> Files for RealFiles<'_, R> {
+    ghost contents = { λ _. None };
+
+    ghost faults = { λ s. s.faults };
+
+    fn fetch(&mut self, alloc: Global, name: &str, most: usize) -> Fetched {
+        match std::fs::open(self.rt, name) {
+            Ok(mut file) => match read_whole(alloc, &mut file, most) {
+                Fetched::Failed => self.fail(),
+                fetched => fetched,
+            },
+            Err(e) => match e.kind() {
+                ErrorKind::NotFound => Fetched::Absent,
+                ErrorKind::OutOfMemory => Fetched::Memory,
+                _ => self.fail(),
+            },
+        }
+    }
+}
+
+// All that is left of a reader, where it is not more than `most` bytes. A call that was
+// interrupted is made again.
+fn read_whole<R: Read>(alloc: Global, file: &mut R, most: usize) -> Fetched
+    ensures { FetchesAtMost most result }
+{
+    let mut bytes = Vec::new(alloc);
+    let mut buf = [0u8; 4096];
+    for _ in 0..u64::MAX {
+        let count = match file.read(&mut buf) {
+            Ok(count) => count,
+            Err(e) if e.kind() == ErrorKind::Interrupted => continue,
+            Err(_) => return Fetched::Failed,
+        };
+        if count == 0 {
+            return Fetched::Found(Items::from_vec(bytes));
+        }
+        if count > most - bytes.len() {
+            return Fetched::TooLong;
+        }
+        if bytes.extend_from_slice(&buf[..count]).is_err() {
+            return Fetched::Memory;
+        }
+    }
+    Fetched::Failed
+}
+
+/// A reader of the system. What it has left is not told.
+#[derive(Drop)]
+pub struct Input<R: Read + Drop> {
+    inner: R,
+    faults: u64,
+}
+
+impl<R: Read + Drop> Input<R> {
+    /// A source that reads from `inner`.
+    pub fn new(inner: R) -> Self {
+        Input { inner, faults: 0 }
+    }
+}
+
+impl<R: Read + Drop> Source for Input<R> {
+    ghost left = { λ _. None };
+
+    ghost faults = { λ s. s.faults };
+
+    fn read(&mut self, buf: &mut [u8]) -> Result<usize, Failed> {
+        match self.inner.read(buf) {
+            Ok(count) => Ok(count),
+            Err(_) => {
+                self.faults = self.faults.saturating_add(1);
+                Err(Failed)
+            }
+        }
+    }
+}
+
+/// A writer of the system. What it has taken is not told. A writer that takes nothing of a
+/// piece counts a fault.
+#[derive(Drop)]
+pub struct Output<W: Write + Drop> {
+    inner: W,
+    faults: u64,
+}
+
+impl<W: Write + Drop> Output<W> {
+    /// A sink that writes to `inner`, and holds nothing back.
+    pub fn new(inner: W) -> Self {
+        Output { inner, faults: 0 }
+    }
+}
+
+impl<W: Write + Drop> Sink for Output<W> {
+    ghost taken = { λ _. None };
+
+    ghost faults = { λ s. s.faults };
+
+    fn write(&mut self, piece: &[u8]) -> Result<usize, Failed> {
+        match self.inner.write(piece) {
+            Ok(count) if count > 0 || piece.is_empty() => Ok(count),
+            _ => {
+                self.faults = self.faults.saturating_add(1);
+                Err(Failed)
+            }
+        }
+    }
+}
