@@ -1,0 +1,3 @@
+mod Joins
+mod Counts
+pub mod Upward

@@ -1,0 +1,4 @@
+pub mod Tree
+pub mod Views
+pub mod Sites
+pub mod Numbered
