@@ -1,0 +1,7 @@
+pub mod Operators
+pub mod Heaps
+pub mod Runs
+pub mod Holds
+pub mod Running
+pub mod Precision
+pub mod Examples
