@@ -1,0 +1,7 @@
+pub mod Budget
+pub mod Values
+pub mod Trees
+pub mod Stmts
+pub mod Calls
+pub mod Maps
+pub mod Written
