@@ -1,0 +1,6 @@
+mod Arms
+mod Checks
+mod Generated
+mod Moves
+mod Stores
+mod Taken
