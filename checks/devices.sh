@@ -63,6 +63,14 @@ for token in '(' '-' '1' '+' 'x' '{' '}' ';' '=' '*' '@' '"'; do
     check "a text of one token $token" 14 "not built 1:1"
 done
 
+printf 'int f(int n) { if (n < 1) { return 0; } int r = f(n - 1); return r + 1; }\nint main() { int d = f(1000000); return d; }\n' > deep.c0
+"$run" run --steps 10000000 deep.c0 >out 2>err; status=$?
+check "a recursion a million deep" 0 "result 1000000"
+
+: > empty.c0
+"$run" run empty.c0 >out 2>err; status=$?
+check "an empty file" 4 "refused 1:1 no main"
+
 "$run" run --steps=5 good.c0 >out 2>err; status=$?
 check "words that are no request" 64 "usage: run, full, check, explain, code, compare or self"
 

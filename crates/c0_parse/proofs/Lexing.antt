@@ -1,6 +1,7 @@
 -- Steps of the list of tokens.
-use Rattle.std.proofs.Common.{◌≡◌, ℕ, zero, suc, ◌+◌, ◌-◌, ◌<◌, ◌≤◌, Bool, true, false, cond, ◌||◌, List, [], ◌∷◌, ◌++◌, length, take, drop, get_or, refl, sym, ap, ◌∙◌, arith, append_assoc, append-nil, length-drop, length-take}
-use Rattle.std.specs.Prelude.{fold, codes}
+use Rattle.std.proofs.Common.{◌≡◌, ℕ, zero, suc, ◌+◌, ◌-◌, ◌<◌, ◌≤◌, Bool, true, false, cond, ◌||◌, List, [], ◌∷◌, ◌++◌, length, take, drop, get_or, refl, sym, ap, ◌∙◌, subst, arith, append_assoc, append-nil, length-drop, length-take}
+use Rattle.std.specs.Prelude.{fold, codes, ◌==◌}
+use Rattle.std.proofs.Common.{inl, inr}
 use Rattle.std.specs.Str.{bytes_eq}
 use Rattle.std.proofs.lemmas.Slice.Eq.{bytes_eq-Decides}
 use Rattle.std.proofs.lemmas.Grind.{common_steps, fold-append}
@@ -10,8 +11,8 @@ use Rattle.gc0_base.specs.declared.place.Place.{Place}
 use Rattle.gc0_base.specs.Places.{moved, place_after}
 use Rattle.c0_parse.specs.declared.token.Token.{Token}
 use Rattle.c0_parse.specs.declared.token.Kind.{Kind}
-use Rattle.c0_parse.specs.Bytes.{is_blank, is_word_byte, is_pair, begins_with, begins_annotation, word_length, symbol_length, kind_of}
-use Rattle.c0_parse.specs.Tokens.{size_at, inside_behind, token_at, tokens_behind}
+use Rattle.c0_parse.specs.Bytes.{is_blank, is_word_byte, is_backslash, is_pair, begins_with, begins_annotation, word_length, symbol_length, kind_of}
+use Rattle.c0_parse.specs.Tokens.{IsBefore, AllBehind, PlacesGrow, size_at, inside_behind, token_at, tokens_behind, tokens_of}
 
 pub word_length_le : (xs : List ℕ) → word_length xs ≤ length xs
 word_length_le [] = omega arith
@@ -54,12 +55,19 @@ symbol_some text h =
           ] refl
     ] refl
 
+slash_some : (b : ℕ) (bs : List ℕ) → (0 < cond (is_backslash b) (suc (word_length bs)) (symbol_length (b ∷ bs))) × (cond (is_backslash b) (suc (word_length bs)) (symbol_length (b ∷ bs)) ≤ suc (length bs))
+slash_some b bs =
+    elim (is_backslash b) as (λ t. (0 < cond t (suc (word_length bs)) (symbol_length (b ∷ bs))) × (cond t (suc (word_length bs)) (symbol_length (b ∷ bs)) ≤ suc (length bs))) [
+      | true ↦ (omega arith, omega (arith, word_length_le bs))
+      | false ↦ symbol_some (b ∷ bs) (omega arith)
+    ]
+
 pub size_some : (rest : List ℕ) → 0 < length rest → (0 < size_at rest) × (size_at rest ≤ length rest)
 size_some [] h = absurd (omega arith)
 size_some (b ∷ bs) h =
-    elim (is_word_byte b) as (λ t. (0 < cond t (cond t (suc (word_length bs)) 0) (symbol_length (b ∷ bs))) × (cond t (cond t (suc (word_length bs)) 0) (symbol_length (b ∷ bs)) ≤ suc (length bs))) [
+    elim (is_word_byte b) as (λ t. (0 < cond t (cond t (suc (word_length bs)) 0) (cond (is_backslash b) (suc (word_length bs)) (symbol_length (b ∷ bs)))) × (cond t (cond t (suc (word_length bs)) 0) (cond (is_backslash b) (suc (word_length bs)) (symbol_length (b ∷ bs))) ≤ suc (length bs))) [
       | true ↦ (omega arith, omega (arith, word_length_le bs))
-      | false ↦ symbol_some (b ∷ bs) h
+      | false ↦ slash_some b bs
     ]
 
 -- bytes that still belong to a token are passed
@@ -140,3 +148,40 @@ token_step inside inside' text rest at size kind place items items' whole r lt b
 -- a line or a column is at most the number of bytes before it, and one
 pub counted : (now' now at size : ℕ) (rest : List ℕ) → now ≤ at + 1 → now' ≤ now + length (take size rest) → now' ≤ at + size + 1
 counted now' now at size rest a b = omega (arith, length-take size rest, a, b)
+
+-- ---- places grow
+before_trans : (p q r : Place) → IsBefore p q → IsBefore q r → IsBefore p r
+before_trans p q r (inl a) (inl b) = inl (omega (arith, a, b))
+before_trans p q r (inl a) (inr b) = inl (omega (arith, a, b.0))
+before_trans p q r (inr a) (inl b) = inl (omega (arith, a.0, b))
+before_trans p q r (inr a) (inr b) = inr (omega (arith, a.0, b.0), omega (arith, a.1, b.1))
+
+one_more : (p : Place) (b : ℕ) → IsBefore p (moved p b)
+one_more p b = elim (b == 10) as (λ t. IsBefore p (cond t (record { line = p.line + 1; column = 1 }) (record { line = p.line; column = p.column + 1 }))) [ true ↦ inl (omega arith) | false ↦ inr (refl, omega arith) ]
+
+byte_on : (before : List ℕ) (b : ℕ) → IsBefore (place_after before) (place_after (before ++ b ∷ []))
+byte_on before b = subst (IsBefore (place_after before)) (sym (fold-append moved (record { line = 1; column = 1 }) before (b ∷ []))) (one_more (place_after before) b)
+
+byte_further : (p : Place) (before : List ℕ) (b : ℕ) → IsBefore p (place_after before) → IsBefore p (place_after (before ++ b ∷ []))
+byte_further p before b h = before_trans p (place_after before) (place_after (before ++ b ∷ [])) h (byte_on before b)
+
+all_behind : (p : Place) (inside : Bool) (skip : ℕ) (before rest : List ℕ) → IsBefore p (place_after before) → AllBehind p (tokens_behind inside skip before rest)
+all_behind p inside skip before [] h = (h, tt)
+all_behind p inside (suc skip) before (b ∷ bs) h = all_behind p inside skip (before ++ b ∷ []) bs (byte_further p before b h)
+all_behind p inside zero before (b ∷ bs) h =
+    elim (is_blank inside b) as (λ t. AllBehind p (cond t (tokens_behind inside 0 (before ++ b ∷ []) bs) (token_at inside before (b ∷ bs) ∷ tokens_behind (inside_behind inside (b ∷ bs)) (size_at (b ∷ bs) - 1) (before ++ b ∷ []) bs))) [
+      | true ↦ all_behind p inside 0 (before ++ b ∷ []) bs (byte_further p before b h)
+      | false ↦ (h, all_behind p (inside_behind inside (b ∷ bs)) (size_at (b ∷ bs) - 1) (before ++ b ∷ []) bs (byte_further p before b h))
+    ]
+
+grow_behind : (inside : Bool) (skip : ℕ) (before rest : List ℕ) → PlacesGrow (tokens_behind inside skip before rest)
+grow_behind inside skip before [] = (tt, tt)
+grow_behind inside (suc skip) before (b ∷ bs) = grow_behind inside skip (before ++ b ∷ []) bs
+grow_behind inside zero before (b ∷ bs) =
+    elim (is_blank inside b) as (λ t. PlacesGrow (cond t (tokens_behind inside 0 (before ++ b ∷ []) bs) (token_at inside before (b ∷ bs) ∷ tokens_behind (inside_behind inside (b ∷ bs)) (size_at (b ∷ bs) - 1) (before ++ b ∷ []) bs))) [
+      | true ↦ grow_behind inside 0 (before ++ b ∷ []) bs
+      | false ↦ (all_behind (place_after before) (inside_behind inside (b ∷ bs)) (size_at (b ∷ bs) - 1) (before ++ b ∷ []) bs (byte_on before b), grow_behind (inside_behind inside (b ∷ bs)) (size_at (b ∷ bs) - 1) (before ++ b ∷ []) bs)
+    ]
+
+pub places_of : (text : List ℕ) → PlacesGrow (tokens_of text)
+places_of text = grow_behind false 0 [] text

@@ -1,10 +1,8 @@
-pub mod Lexing
-pub mod Failing
 pub mod Marks
-pub mod Operators
 pub mod Takes
-pub mod Fine
-pub mod Steps
-pub mod Exact
-pub mod Faults
-pub mod Ordered
+pub mod Backs
+pub mod Enters
+pub mod Lexing
+pub mod Runs
+pub mod Failing
+pub mod Loops

@@ -1,92 +1,153 @@
--- The tokens that a plan takes, in terms of the grammar.
-use Rattle.std.proofs.Common.{◌≡◌, ℕ, ◌+◌, ◌-◌, ◌≤◌, true, List, [], ◌∷◌, ◌++◌, Option, Some, None, refl, sym, ap, ◌∙◌, subst, append_assoc, arith}
+-- The texts that a plan takes, by the grammar.
+use Rattle.std.proofs.Common.{◌≡◌, ℕ, suc, ◌+◌, ◌≤◌, Bool, true, cond, List, [], ◌∷◌, Option, Some, None, ◌⊎◌}
+use Rattle.gc0_base.specs.declared.place.Place.{Place}
 use Rattle.c0_parse.specs.declared.token.Token.{Token}
 use Rattle.c0_parse.specs.declared.token.Kind.TheVariants.{Name, End}
 use Rattle.c0_parse.specs.declared.token.Fixed.{Fixed}
 use Rattle.c0_parse.specs.declared.token.Fixed.TheVariants as mark
-use Rattle.c0_parse.specs.declared.tree.Order.{Order}
-use Rattle.c0_parse.specs.declared.tree.Expr.{Expr}
-use Rattle.c0_parse.specs.declared.tree.Relation.{Relation}
-use Rattle.c0_parse.specs.declared.tree.Stmt.{Stmt}
-use Rattle.c0_parse.specs.declared.tree.Stmt.TheVariants.{Assert}
-use Rattle.c0_parse.specs.declared.tree.Program.{Program}
-use Rattle.c0_parse.specs.Grammar.{Level, Factor, Term, Sum, Rest, More, Is, Parses, term, sum, operators_in, most_operators, depth, IsExpr, Comparison, IsRelation, compared, MoreRelations, IsBody}
-use Rattle.c0_parse.specs.Plan.{accepts, Plan, Await, Identifier, Asserts, Operand, Times, Adds, Compare, Ands, Body, Last, Finished, term_of, sum_of, expression_of, relation_of}
-use Rattle.c0_parse.proofs.Operators.{grows}
+use Rattle.c0_parse.specs.declared.tree.Shape.{Shape}
+use Rattle.c0_parse.specs.declared.tree.Typed.{Typed}
+use Rattle.c0_parse.specs.declared.tree.Named.{Named}
+use Rattle.c0_parse.specs.declared.tree.Operator.{Operator}
+use Rattle.c0_parse.specs.declared.tree.Parameter.{Parameter}
+use Rattle.c0_parse.specs.Tree.{ExprTree, RightTree, NoteTree, StmtTrees, no_stmts, stmt, ClauseTree, FunctionTree, ProgramTree}
+use Rattle.c0_parse.specs.Grammar.{token, fixed, type_word, operator_mark, Written, spell, joined, tree_of, rank, height, operators, Good, Chain, spell_chain, chain_trees, GoodChain, named_at, RightText, spell_right, right_tree, GoodRight, NoteText, spell_notes, note_trees, GoodNotes, Lines, spell_lines, typed_at, line_trees, GoodLines, is_return, MoreParameters, spell_more, more_trees, ClauseText, spell_contract, contract_trees, GoodContract, FunctionText, spell_functions, function_trees, GoodFunctions}
+use Rattle.c0_parse.specs.Plan.{Plan, await, named, typed, peek, operand, ops, chain, right_side, notes, contract, lines, more_parameters, functions, finished}
 
-abbrev pub BodyTakes : List Stmt → List Token → Program → Type 0
-BodyTakes done ts p = (ss : List Stmt) × (r : Expr) × IsBody ts ss r × (◌≡◌ {A = Program} (record { statements = done ++ ss; result = r }) p)
+-- ---- operators of one rank, each with its right side
+pub data Tail : Type 0 where
+  no_tail : Tail
+  tail : (at : Place) → Operator → Written → Tail → Tail
 
--- the words that a plan takes, to this program
-abbrev pub Takes : Plan → List Token → Program → Type 0
-Takes (Await w next) ts p = (t : Token) × (rest : List Token) × (ts ≡ t ∷ rest) × (accepts w t.kind ≡ true) × Takes next rest p
-Takes (Identifier next) ts p = (t : Token) × (n : List ℕ) × (rest : List Token) × (ts ≡ t ∷ rest) × (t.kind ≡ Name n) × Takes (next (record { name = n; place = t.place })) rest p
-Takes (Asserts next) ts p = (t : Token) × (rest : List Token) × (ts ≡ t ∷ rest) × Is mark.Assert t × Takes (next t.place) rest p
-Takes (Operand room left next) ts p = (u : List Token) × (e : Expr) × (rest : List Token) × (l : ℕ) × (ts ≡ u ++ rest) × Parses Factor room u e × (left ≡ operators_in e + l) × Takes (next l e) rest p
-Takes (Times room left a next) ts p = (u : List Token) × (e : Expr) × (rest : List Token) × (l : ℕ) × (ts ≡ u ++ rest) × Parses (Rest a) room u e × (left + operators_in a ≡ operators_in e + l) × Takes (next l e) rest p
-Takes (Adds room left a next) ts p = (u : List Token) × (e : Expr) × (rest : List Token) × (l : ℕ) × (ts ≡ u ++ rest) × Parses (More a) room u e × (left + operators_in a ≡ operators_in e + l) × Takes (next l e) rest p
-Takes (Compare next) ts p = (t : Token) × (f : Fixed) × (o : Order) × (rest : List Token) × (ts ≡ t ∷ rest) × Is f t × Comparison f o × Takes (next o) rest p
-Takes (Ands done place rs) ts p = (w : List Token) × (more : List Relation) × (s : Token) × (l : Token) × (rest : List Token) × (ts ≡ w ++ s ∷ l ∷ rest) × MoreRelations w more × Is mark.Semicolon s × Is mark.LineEnd l × BodyTakes (done ++ Assert place (rs ++ more) ∷ []) rest p
-Takes (Body done) ts p = BodyTakes done ts p
-Takes (Last q) ts p = (l : Token) × (ts ≡ l ∷ []) × (l.kind ≡ End) × (q ≡ p)
-Takes (Finished q) ts p = (ts ≡ []) × (q ≡ p)
+abbrev pub spell_tail : Tail → List Token → List Token
+spell_tail no_tail rest = rest
+spell_tail (tail at o y tl) rest = fixed (operator_mark o) at ∷ spell y (spell_tail tl rest)
 
-abbrev pub TakesNext : Option Plan → List Token → Program → Type 0
+abbrev pub tail_tree : ExprTree → Tail → ExprTree
+tail_tree e no_tail = e
+tail_tree e (tail at o y tl) = tail_tree (joined at o e (tree_of y)) tl
+
+abbrev pub tail_operators : Tail → ℕ
+tail_operators no_tail = 0
+tail_operators (tail at o y tl) = suc (operators y + tail_operators tl)
+
+abbrev pub GoodTail : ℕ → Bool → ℕ → Tail → Type 0
+GoodTail r f room no_tail = Unit {0}
+GoodTail r f room (tail at o y tl) = (rank o ≡ r) × Good f room y × (height y ≤ r) × GoodTail r f room tl
+
+-- whether the closing brace may come behind the statements
+abbrev pub last_closes : (any now : Bool) → StmtTrees → Bool
+last_closes any now no_stmts = now
+last_closes any now (stmt s ss) = last_closes any (cond any true (is_return s)) ss
+
+-- ---- K is what the rest is to be
+pub record AtMark (f : Fixed) (K : Place → List Token → Type 0) (ts : List Token) : Type 0 where
+  pub at : Place
+  pub rest : List Token
+  pub split : ts ≡ fixed f at ∷ rest
+  pub after : K at rest
+
+pub record AtNamed (K : Named → List Token → Type 0) (ts : List Token) : Type 0 where
+  pub at : Place
+  pub name : List ℕ
+  pub rest : List Token
+  pub split : ts ≡ token (Name name) at ∷ rest
+  pub after : K (named_at at name) rest
+
+pub record AtTyped (K : Typed → List Token → Type 0) (ts : List Token) : Type 0 where
+  pub at : Place
+  pub shape : Shape
+  pub rest : List Token
+  pub split : ts ≡ fixed (type_word shape) at ∷ rest
+  pub after : K (typed_at at shape) rest
+
+pub record AtOperand (f : Bool) (room left : ℕ) (K : ExprTree → ℕ → List Token → Type 0) (ts : List Token) : Type 0 where
+  pub w : Written
+  pub rest : List Token
+  pub spare : ℕ
+  pub good : Good f room w
+  pub flat : height w ≡ 0
+  pub count : left ≡ operators w + spare
+  pub split : ts ≡ spell w rest
+  pub after : K (tree_of w) spare rest
+
+pub record AtOps (r : ℕ) (f : Bool) (room left : ℕ) (e : ExprTree) (K : ExprTree → ℕ → List Token → Type 0) (ts : List Token) : Type 0 where
+  pub tl : Tail
+  pub rest : List Token
+  pub spare : ℕ
+  pub good : GoodTail r f room tl
+  pub count : left ≡ tail_operators tl + spare
+  pub split : ts ≡ spell_tail tl rest
+  pub after : K (tail_tree e tl) spare rest
+
+pub record AtChain (s : Fixed) (f : Bool) (room : ℕ) (K : List ExprTree → List Token → Type 0) (ts : List Token) : Type 0 where
+  pub xs : Chain
+  pub rest : List Token
+  pub good : GoodChain f room xs
+  pub split : ts ≡ spell_chain s xs rest
+  pub after : K (chain_trees xs) rest
+
+pub record AtRight (room : ℕ) (K : RightTree → List Token → Type 0) (ts : List Token) : Type 0 where
+  pub r : RightText
+  pub rest : List Token
+  pub good : GoodRight room r
+  pub split : ts ≡ spell_right r rest
+  pub after : K (right_tree r) rest
+
+pub record AtNotes (room : ℕ) (K : List NoteTree → List Token → Type 0) (ts : List Token) : Type 0 where
+  pub ns : List NoteText
+  pub rest : List Token
+  pub good : GoodNotes room ns
+  pub split : ts ≡ spell_notes ns rest
+  pub after : K (note_trees ns) rest
+
+pub record AtContract (K : List ClauseTree → List Token → Type 0) (ts : List Token) : Type 0 where
+  pub cs : List ClauseText
+  pub rest : List Token
+  pub good : GoodContract cs
+  pub split : ts ≡ spell_contract cs rest
+  pub after : K (contract_trees cs) rest
+
+pub record AtLines (room : ℕ) (any now : Bool) (K : StmtTrees → Place → List Token → Type 0) (ts : List Token) : Type 0 where
+  pub ls : Lines
+  pub e : Place
+  pub rest : List Token
+  pub good : GoodLines room ls
+  pub closes : last_closes any now (line_trees ls) ≡ true
+  pub split : ts ≡ spell_lines ls (fixed mark.CloseBrace e ∷ rest)
+  pub after : K (line_trees ls) e rest
+
+pub record AtMore (K : List Parameter → List Token → Type 0) (ts : List Token) : Type 0 where
+  pub ps : MoreParameters
+  pub b : Place
+  pub rest : List Token
+  pub split : ts ≡ spell_more ps (fixed mark.Close b ∷ rest)
+  pub after : K (more_trees ps) rest
+
+pub record AtFunctions (K : List FunctionTree → List Token → Type 0) (ts : List Token) : Type 0 where
+  pub fs : List FunctionText
+  pub last : Place
+  pub rest : List Token
+  pub good : GoodFunctions fs
+  pub split : ts ≡ spell_functions fs (token End last ∷ rest)
+  pub after : K (function_trees fs) rest
+
+abbrev pub Takes : Plan → List Token → ProgramTree → Type 0
+Takes (await f next) ts p = AtMark f (λ at r. Takes (next at) r p) ts
+Takes (named next) ts p = AtNamed (λ n r. Takes (next n) r p) ts
+Takes (typed next) ts p = AtTyped (λ t r. Takes (next t) r p) ts
+Takes (peek f these others) ts p = AtMark f (λ at r. Takes (these at) r p) ts ⊎ Takes others ts p
+Takes (operand f room left next) ts p = AtOperand f room left (λ e l r. Takes (next e l) r p) ts
+Takes (ops k f room left e next) ts p = AtOps k f room left e (λ e' l r. Takes (next e' l) r p) ts
+Takes (chain s f room next) ts p = AtChain s f room (λ es r. Takes (next es) r p) ts
+Takes (right_side room next) ts p = AtRight room (λ v r. Takes (next v) r p) ts
+Takes (notes room next) ts p = AtNotes room (λ ns r. Takes (next ns) r p) ts
+Takes (contract next) ts p = AtContract (λ cs r. Takes (next cs) r p) ts
+Takes (lines room any now next) ts p = AtLines room any now (λ ss e r. Takes (next ss e) r p) ts
+Takes (more_parameters next) ts p = AtMore (λ ps r. Takes (next ps) r p) ts
+Takes (functions next) ts p = AtFunctions (λ fs r. Takes (next fs) r p) ts
+Takes (finished q) ts p = (ts ≡ []) × (q ≡ p)
+
+abbrev pub TakesNext : Option Plan → List Token → ProgramTree → Type 0
 TakesNext None ts p = ⊥
 TakesNext (Some plan) ts p = Takes plan ts p
-
--- a part of the words, and what comes behind it
-abbrev pub Splits : {X : Type 0} → (List Token → X → Type 0) → (X → Plan) → List Token → Program → Type 0
-Splits {X} part next ts p = (u : List Token) × (x : X) × (rest : List Token) × (ts ≡ u ++ rest) × part u x × Takes (next x) rest p
-
--- ---- terms and sums, both ways
-pub term_takes : (room left : ℕ) (next : ℕ → Expr → Plan) (u rest : List Token) (e : Expr) (l : ℕ) (p : Program) → Parses Term room u e → left ≡ operators_in e + l → Takes (next l e) rest p → Takes (term_of room left next) (u ++ rest) p
-term_takes room left next u rest e l p (term {u = u1} {v = v1} {f = g} f r) n t =
-    let m : operators_in g ≤ operators_in e = grows r in
-    (u1, g, v1 ++ rest, left - operators_in g, append_assoc u1 v1 rest, f, omega (arith, m, n), (v1, e, rest, l, refl, r, omega (arith, m, n), t))
-
-pub sum_takes : (room left : ℕ) (next : ℕ → Expr → Plan) (u rest : List Token) (e : Expr) (l : ℕ) (p : Program) → Parses Sum room u e → left ≡ operators_in e + l → Takes (next l e) rest p → Takes (sum_of room left next) (u ++ rest) p
-sum_takes room left next u rest e l p (sum {u = u1} {v = v1} {f = g} f r) n t =
-    let m : operators_in g ≤ operators_in e = grows r in
-    subst (λ ts. Takes (sum_of room left next) ts p) (sym (append_assoc u1 v1 rest))
-    (term_takes room left (λ l t. Adds room l t next) u1 (v1 ++ rest) g (left - operators_in g) p f (omega (arith, m, n)) (v1, e, rest, l, refl, r, omega (arith, m, n), t))
-
-abbrev pub Counted : Level → ℕ → ℕ → (ℕ → Expr → Plan) → List Token → Program → Type 0
-Counted level room left next ts p = (u : List Token) × (e : Expr) × (rest : List Token) × (l : ℕ) × (ts ≡ u ++ rest) × Parses level room u e × (left ≡ operators_in e + l) × Takes (next l e) rest p
-
-pub term_back : (room left : ℕ) (next : ℕ → Expr → Plan) (ts : List Token) (p : Program) → Takes (term_of room left next) ts p → Counted Term room left next ts p
-term_back room left next ts p x =
-    let y = x.7 in
-    (x.0 ++ y.0, y.1, y.2, y.3, x.4 ∙ ap (λ l. x.0 ++ l) y.4 ∙ sym (append_assoc x.0 y.0 y.2), term x.5 y.5, omega (arith, x.6, y.6), y.7)
-
-pub sum_back : (room left : ℕ) (next : ℕ → Expr → Plan) (ts : List Token) (p : Program) → Takes (sum_of room left next) ts p → Counted Sum room left next ts p
-sum_back room left next ts p t =
-    let x = term_back room left (λ l t. Adds room l t next) ts p t in
-    let y = x.7 in
-    (x.0 ++ y.0, y.1, y.2, y.3, x.4 ∙ ap (λ l. x.0 ++ l) y.4 ∙ sym (append_assoc x.0 y.0 y.2), sum x.5 y.5, omega (arith, x.6, y.6), y.7)
-
--- ---- expressions and relations, both ways
-pub expression_takes : (next : Expr → Plan) (u rest : List Token) (e : Expr) (p : Program) → IsExpr u e → Takes (next e) rest p → Takes (expression_of next) (u ++ rest) p
-expression_takes next u rest e p x t = sum_takes depth most_operators (λ l e. next e) u rest e (most_operators - operators_in e) p x.parsed (let n = x.short in omega (arith, n)) t
-
-pub expression_back : (next : Expr → Plan) (ts : List Token) (p : Program) → Takes (expression_of next) ts p → Splits IsExpr next ts p
-expression_back next ts p x =
-    let y = sum_back depth most_operators (λ l e. next e) ts p x in
-    (y.0, y.1, y.2, y.4, record { parsed = y.5; short = omega (arith, y.6) }, y.7)
-
-pub relation_takes : (next : Relation → Plan) (u rest : List Token) (r : Relation) (p : Program) → IsRelation u r → Takes (next r) rest p → Takes (relation_of next) (u ++ rest) p
-relation_takes next u rest r p (compared {u = u1} {v = v1} {a = a} {b = b} {fixed = f} {o = o} t xa is c xb) x =
-    let second : Expr → Plan = λ b. next (record { left = a; order = o; right = b }) in
-    let first : Expr → Plan = λ a. Compare (λ o. expression_of (λ b. next (record { left = a; order = o; right = b }))) in
-    subst (λ ts. Takes (relation_of next) ts p) (sym (append_assoc u1 (t ∷ v1) rest))
-    (expression_takes first u1 (t ∷ (v1 ++ rest)) a p xa (t, f, o, v1 ++ rest, refl, is, c, expression_takes second v1 rest b p xb x))
-
-pub relation_back : (next : Relation → Plan) (ts : List Token) (p : Program) → Takes (relation_of next) ts p → Splits IsRelation next ts p
-relation_back next ts p x =
-    let first = expression_back (λ a. Compare (λ o. expression_of (λ b. next (record { left = a; order = o; right = b })))) ts p x in
-    let a = first.1 in
-    let c = first.5 in
-    let second = expression_back (λ b. next (record { left = a; order = c.2; right = b })) c.3 p c.7 in
-    let split : ts ≡ (first.0 ++ c.0 ∷ second.0) ++ second.2 =
-    first.3 ∙ ap (λ l. first.0 ++ l) (c.4 ∙ ap (λ l. c.0 ∷ l) second.3) ∙ sym (append_assoc first.0 (c.0 ∷ second.0) second.2) in
-    (first.0 ++ c.0 ∷ second.0, record { left = a; order = c.2; right = second.1 }, second.2, split, compared c.0 first.4 c.5 c.6 second.4, second.5)

@@ -1,6 +1,7 @@
+pub mod Tree
+pub mod Views
 pub mod Bytes
 pub mod Tokens
 pub mod Grammar
 pub mod Reads
 pub mod Plan
-pub mod Places

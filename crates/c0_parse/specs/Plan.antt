@@ -1,222 +1,370 @@
--- How tokens are taken one by one: what may come next.
-use Rattle.std.specs.Prelude.{◌≡◌, ℕ, zero, suc, Bool, true, false, ◌==◌, List, [], ◌∷◌, ◌++◌, Option, Some, None, Result, Ok, Err, if◌then◌else◌, codes}
-use Rattle.std.specs.Str.{bytes_eq}
+-- How tokens are taken one by one: what may come next, and the tree that results. The reader's
+-- contracts say what it does by these plans; that they take exactly the texts of the grammar is
+-- proved (this project's own).
+use Rattle.std.specs.Prelude.{◌≡◌, ℕ, zero, suc, Bool, true, false, ◌==◌, cond, List, [], ◌∷◌, Option, Some, None, Result, Ok, Err}
 use Rattle.gc0_base.specs.declared.place.Place.{Place}
 use Rattle.c0_parse.specs.declared.token.Token.{Token}
 use Rattle.c0_parse.specs.declared.token.Kind.{Kind}
 use Rattle.c0_parse.specs.declared.token.Kind.TheVariants.{Known, Name, Number, End}
 use Rattle.c0_parse.specs.declared.token.Fixed.{Fixed}
 use Rattle.c0_parse.specs.declared.token.Fixed.TheVariants as mark
-use Rattle.c0_parse.specs.declared.token.Want.{Want}
-use Rattle.c0_parse.specs.declared.token.Want.TheVariants.{Mark, Main}
-use Rattle.c0_parse.specs.declared.tree.Operator.{Operator}
-use Rattle.c0_parse.specs.declared.tree.Operator.TheVariants.{Add, Sub, Mul}
-use Rattle.c0_parse.specs.declared.tree.Order.{Order}
-use Rattle.c0_parse.specs.declared.tree.Order.TheVariants as order
+use Rattle.c0_parse.specs.declared.tree.Shape.{Shape}
+use Rattle.c0_parse.specs.declared.tree.Shape.TheVariants as shape
+use Rattle.c0_parse.specs.declared.tree.Typed.{Typed}
 use Rattle.c0_parse.specs.declared.tree.Named.{Named}
-use Rattle.c0_parse.specs.declared.tree.Expr.{Expr}
-use Rattle.c0_parse.specs.declared.tree.Expr.TheVariants.{Literal, Local, Negate, Binary}
-use Rattle.c0_parse.specs.declared.tree.Relation.{Relation}
-use Rattle.c0_parse.specs.declared.tree.Stmt.{Stmt}
-use Rattle.c0_parse.specs.declared.tree.Stmt.TheVariants.{Declare, Assign, Print, Assert}
-use Rattle.c0_parse.specs.declared.tree.Program.{Program}
+use Rattle.c0_parse.specs.declared.tree.UnaryOperator.TheVariants as unary_op
+use Rattle.c0_parse.specs.declared.tree.Operator.{Operator}
+use Rattle.c0_parse.specs.declared.tree.Operator.TheVariants as op
+use Rattle.c0_parse.specs.declared.tree.ClauseKind.TheVariants as side
+use Rattle.c0_parse.specs.declared.tree.Parameter.{Parameter}
 use Rattle.c0_parse.specs.declared.tree.ReadFault.{ReadFault}
 use Rattle.c0_parse.specs.declared.tree.ReadFault.TheVariants.{NotBuilt, Memory}
-use Rattle.c0_parse.specs.Grammar.{depth, most_operators}
+use Rattle.c0_parse.specs.Tree.{ExprTree, number, truth, local, outcome, unary, from, CallTree, RightTree, value, call, FormulaTree, NoteTree, StmtTree, declare, assign, call_stmt, print_stmt, return_stmt, if_stmt, while_stmt, assert_stmt, StmtTrees, no_stmts, stmt, ClauseTree, FunctionTree, ProgramTree}
+use Rattle.c0_parse.specs.Grammar.{spot, joined, rank, typed_at, named_at, is_return, most_operators, most_nested, body_room}
 
 abbrev pub fixed_code : Fixed → ℕ
 fixed_code mark.Int = 0
-fixed_code mark.Return = 1
-fixed_code mark.PrintInt = 2
-fixed_code mark.Assert = 3
-fixed_code mark.Open = 4
-fixed_code mark.Close = 5
-fixed_code mark.OpenBrace = 6
-fixed_code mark.CloseBrace = 7
-fixed_code mark.Semicolon = 8
-fixed_code mark.Assign = 9
-fixed_code mark.Plus = 10
-fixed_code mark.Minus = 11
-fixed_code mark.Star = 12
-fixed_code mark.And = 13
-fixed_code mark.Equal = 14
-fixed_code mark.NotEqual = 15
-fixed_code mark.Less = 16
-fixed_code mark.LessEq = 17
-fixed_code mark.Greater = 18
-fixed_code mark.GreaterEq = 19
-fixed_code mark.Annotation = 20
-fixed_code mark.LineEnd = 21
+fixed_code mark.Bool = 1
+fixed_code mark.If = 2
+fixed_code mark.Else = 3
+fixed_code mark.While = 4
+fixed_code mark.Return = 5
+fixed_code mark.Assert = 6
+fixed_code mark.True = 7
+fixed_code mark.False = 8
+fixed_code mark.PrintInt = 9
+fixed_code mark.PrintBool = 10
+fixed_code mark.Requires = 11
+fixed_code mark.Ensures = 12
+fixed_code mark.LoopInvariant = 13
+fixed_code mark.Outcome = 14
+fixed_code mark.Open = 15
+fixed_code mark.Close = 16
+fixed_code mark.Comma = 17
+fixed_code mark.OpenBrace = 18
+fixed_code mark.CloseBrace = 19
+fixed_code mark.Semicolon = 20
+fixed_code mark.Assign = 21
+fixed_code mark.Plus = 22
+fixed_code mark.Minus = 23
+fixed_code mark.Star = 24
+fixed_code mark.Not = 25
+fixed_code mark.And = 26
+fixed_code mark.Question = 27
+fixed_code mark.Equal = 28
+fixed_code mark.NotEqual = 29
+fixed_code mark.Less = 30
+fixed_code mark.LessEq = 31
+fixed_code mark.Greater = 32
+fixed_code mark.GreaterEq = 33
+fixed_code mark.Annotation = 34
+fixed_code mark.LineEnd = 35
 
--- a token of this kind is what is wanted
-abbrev pub accepts : Want → Kind → Bool
-accepts (Mark f) (Known g) = fixed_code f == fixed_code g
-accepts Main (Name n) = bytes_eq n (codes "main")
-accepts w k = false
+-- the token is this keyword or symbol
+abbrev pub is : Fixed → Kind → Bool
+is f (Known g) = fixed_code f == fixed_code g
+is f k = false
 
--- what is still to come; a part's continuation is given what the part was read as
+-- this keyword or symbol stands first
+abbrev pub starts : Fixed → List Token → Bool
+starts f [] = false
+starts f (t ∷ ts) = is f t.kind
+
+abbrev pub operator_of : Fixed → Option Operator
+operator_of mark.Star = Some op.Mul
+operator_of mark.Plus = Some op.Add
+operator_of mark.Minus = Some op.Sub
+operator_of mark.Less = Some op.Less
+operator_of mark.LessEq = Some op.LessEq
+operator_of mark.Greater = Some op.Greater
+operator_of mark.GreaterEq = Some op.GreaterEq
+operator_of mark.Equal = Some op.Equal
+operator_of mark.NotEqual = Some op.NotEqual
+operator_of f = None
+
+abbrev pub operator_at : Kind → Option Operator
+operator_at (Known f) = operator_of f
+operator_at k = None
+
+-- an operator, if it is of this rank
+abbrev pub of_rank : ℕ → Option Operator → Option Operator
+of_rank r None = None
+of_rank r (Some o) = cond (rank o == r) (Some o) None
+
+-- what is still to come; each goes on with what follows from the part that it reads
 pub data Plan : Type 0 where
-  Await : Want → Plan → Plan
-  Identifier : (Named → Plan) → Plan
-  -- the word `assert`, of which the place goes on
-  Asserts : (Place → Plan) → Plan
-  -- a factor, with room for nesting and a number of operators left, of which the rest goes on
-  Operand : ℕ → ℕ → (ℕ → Expr → Plan) → Plan
-  -- behind a factor, and behind a term
-  Times : ℕ → ℕ → Expr → (ℕ → Expr → Plan) → Plan
-  Adds : ℕ → ℕ → Expr → (ℕ → Expr → Plan) → Plan
-  Compare : (Order → Plan) → Plan
-  -- behind these relations of an assertion at this place
-  Ands : List Stmt → Place → List Relation → Plan
-  -- behind these statements
-  Body : List Stmt → Plan
-  Last : Program → Plan
-  Finished : Program → Plan
+  -- one token
+  await : Fixed → (Place → Plan) → Plan
+  named : (Named → Plan) → Plan
+  typed : (Typed → Plan) → Plan
+  -- this token, and else something else
+  peek : Fixed → (Place → Plan) → Plan → Plan
+  -- a unary expression, and operators of one rank behind a left side; `ensures`, the room, and
+  -- how many operators the expression may still have
+  operand : Bool → (room left : ℕ) → (ExprTree → ℕ → Plan) → Plan
+  ops : (r : ℕ) → Bool → (room left : ℕ) → ExprTree → (ExprTree → ℕ → Plan) → Plan
+  -- { separator expr }
+  chain : Fixed → Bool → (room : ℕ) → (List ExprTree → Plan) → Plan
+  right_side : (room : ℕ) → (RightTree → Plan) → Plan
+  notes : (room : ℕ) → (List NoteTree → Plan) → Plan
+  contract : (List ClauseTree → Plan) → Plan
+  -- statements and the closing brace; whether it may come behind any of them, and may now
+  lines : (room : ℕ) → (any now : Bool) → (StmtTrees → Place → Plan) → Plan
+  more_parameters : (List Parameter → Plan) → Plan
+  functions : (List FunctionTree → Plan) → Plan
+  finished : ProgramTree → Plan
 
-abbrev pub await : List Want → Plan → Plan
-await [] next = next
-await (w ∷ ws) next = Await w (await ws next)
+-- behind a unary expression: operators of the ranks below r
+abbrev pub behind : ℕ → Bool → ℕ → (ExprTree → ℕ → Plan) → ExprTree → ℕ → Plan
+behind zero f room next = next
+behind (suc r) f room next = behind r f room (λ e left. ops r f room left e next)
 
--- a term, a sum, and a whole expression
-abbrev pub term_of : ℕ → ℕ → (ℕ → Expr → Plan) → Plan
-term_of room left next = Operand room left (λ l f. Times room l f next)
+abbrev pub climb : ℕ → Bool → (room left : ℕ) → (ExprTree → ℕ → Plan) → Plan
+climb r f room left next = operand f room left (behind r f room next)
 
-abbrev pub sum_of : ℕ → ℕ → (ℕ → Expr → Plan) → Plan
-sum_of room left next = term_of room left (λ l t. Adds room l t next)
+-- a whole expression
+abbrev pub expr : Bool → ℕ → (ExprTree → Plan) → Plan
+expr f room next = climb 4 f room most_operators (λ e left. next e)
 
-abbrev pub expression_of : (Expr → Plan) → Plan
-expression_of next = sum_of depth most_operators (λ l e. next e)
+abbrev pub deeper : ℕ → (ℕ → Plan) → Option Plan
+deeper zero next = None
+deeper (suc room) next = Some (next room)
 
-abbrev pub relation_of : (Relation → Plan) → Plan
-relation_of next = expression_of (λ a. Compare (λ o. expression_of (λ b. next (record { left = a; order = o; right = b }))))
+abbrev pub operand_step : Bool → (room left : ℕ) → (ExprTree → ℕ → Plan) → Kind → Place → Option Plan
+operand_step f room left next (Number w) at = Some (next (number (spot at) w) left)
+operand_step f room left next (Name n) at = Some (next (local (spot at) n) left)
+operand_step f room left next (Known mark.True) at = Some (next (truth (spot at) true) left)
+operand_step f room left next (Known mark.False) at = Some (next (truth (spot at) false) left)
+operand_step f room left next (Known mark.Outcome) at = cond f (Some (next (outcome (spot at)) left)) None
+operand_step f room left next (Known mark.Not) at = deeper room (λ r. operand f r left (λ e l. next (unary (spot at) unary_op.Not e) l))
+operand_step f room left next (Known mark.Minus) at = deeper room (λ r. operand f r left (λ e l. next (unary (spot at) unary_op.Negate e) l))
+operand_step f room left next (Known mark.Open) at = deeper room (λ r. climb 4 f r left (λ e l. await mark.Close (λ b. next (from at e) l)))
+operand_step f room left next k at = None
 
-abbrev pub some_if : Bool → Plan → Option Plan
-some_if b plan = if b then Some plan else None
+abbrev pub ops_step : ℕ → Bool → (room left : ℕ) → ExprTree → (ExprTree → ℕ → Plan) → Option Plan → Option Operator → Place → Option Plan
+ops_step r f room left e next other None at = other
+ops_step r f room left e next other (Some o) at = deeper left (λ l. climb r f room l (λ e' l'. ops r f room l' (joined at o e e') next))
 
-abbrev pub is_star : Kind → Bool
-is_star (Known mark.Star) = true
-is_star k = false
+abbrev pub arguments : ℕ → (List ExprTree → Plan) → Plan
+arguments room next = peek mark.Close (λ b. next []) (expr false room (λ e. chain mark.Comma false room (λ es. await mark.Close (λ b. next (e ∷ es)))))
 
-abbrev pub sum_operator : Kind → Option Operator
-sum_operator (Known mark.Plus) = Some Add
-sum_operator (Known mark.Minus) = Some Sub
-sum_operator k = None
+-- behind the name of a call and its parenthesis
+abbrev pub called : Place → List ℕ → ℕ → (CallTree → Plan) → Plan
+called at n room next = arguments room (λ es. next (record { name = named_at at n; arguments = es }))
 
-abbrev pub comparison_of : Kind → Option Order
-comparison_of (Known mark.Equal) = Some order.Equal
-comparison_of (Known mark.NotEqual) = Some order.NotEqual
-comparison_of (Known mark.Less) = Some order.Less
-comparison_of (Known mark.LessEq) = Some order.LessEq
-comparison_of (Known mark.Greater) = Some order.Greater
-comparison_of (Known mark.GreaterEq) = Some order.GreaterEq
-comparison_of k = None
+-- behind a name on a right side: a call, or the rest of an expression
+abbrev pub behind_name : Place → List ℕ → ℕ → (RightTree → Plan) → Plan
+behind_name at n room next = peek mark.Open (λ a. called at n room (λ c. next (call c))) (behind 4 false room (λ e left. next (value e)) (local (spot at) n) most_operators)
 
-abbrev pub operand_step : ℕ → ℕ → (ℕ → Expr → Plan) → Kind → Place → Option Plan
-operand_step room left next (Number w) place = Some (next left (Literal w))
-operand_step room left next (Name n) place = Some (next left (Local (record { name = n; place = place })))
-operand_step (suc room) left next (Known mark.Minus) place = Some (Operand room left (λ l e. next l (Negate e)))
-operand_step (suc room) left next (Known mark.Open) place = Some (sum_of room left (λ l e. Await (Mark mark.Close) (next l e)))
-operand_step room left next k place = None
+abbrev pub right_step : ℕ → (RightTree → Plan) → Kind → Place → Option Plan
+right_step room next (Name n) at = Some (behind_name at n room next)
+right_step room next k at = operand_step false room most_operators (behind 4 false room (λ e left. next (value e))) k at
 
--- the right side of a product, if an operator is left
-abbrev pub product_step : ℕ → ℕ → Expr → (ℕ → Expr → Plan) → Option Plan
-product_step room zero a next = None
-product_step room (suc left) a next = Some (Operand room left (λ l f. Times room l (Binary Mul a f) next))
+abbrev pub formula : Bool → ℕ → (FormulaTree → Plan) → Plan
+formula f room next =
+    peek mark.Question (λ at. chain mark.And f room (λ es. next (record { imprecise = true; conjuncts = es })))
+    (expr f room (λ e. chain mark.And f room (λ es. next (record { imprecise = false; conjuncts = e ∷ es }))))
 
--- the right side of a sum, if an operator is left
-abbrev pub more_step : ℕ → ℕ → Expr → (ℕ → Expr → Plan) → Operator → Option Plan
-more_step room zero a next op = None
-more_step room (suc left) a next op = Some (term_of room left (λ l t. Adds room l (Binary op a t) next))
+-- behind the word of an annotation, which stands at this place
+abbrev pub noted : Bool → ℕ → Place → (NoteTree → Plan) → Plan
+noted f room at next = formula f room (λ p. await mark.Semicolon (λ c. await mark.LineEnd (λ l. next (record { place = at; formula = p }))))
 
--- the operator's right side, or what comes next
-abbrev pub adds_step : ℕ → ℕ → Expr → (ℕ → Expr → Plan) → Option Plan → Option Operator → Option Plan
-adds_step room left a next other None = other
-adds_step room left a next other (Some op) = more_step room left a next op
+-- behind the `//@` of a contract
+abbrev pub clause : (ClauseTree → Plan) → Plan
+clause next =
+    peek mark.Requires (λ at. noted false most_nested at (λ n. next (record { kind = side.Requires; note = n })))
+    (await mark.Ensures (λ at. noted true most_nested at (λ n. next (record { kind = side.Ensures; note = n }))))
 
-abbrev pub compare_step : (Order → Plan) → Option Order → Option Plan
-compare_step next None = None
-compare_step next (Some o) = Some (next o)
+-- the rest of a statement that assigns: `=`, a right side and `;`
+abbrev pub assigned : ℕ → (Place → RightTree → Plan) → Plan
+assigned room next = await mark.Assign (λ q. right_side room (λ r. await mark.Semicolon (λ c. next q r)))
 
-abbrev pub ands_step : List Stmt → Place → List Relation → Kind → Option Plan
-ands_step done place rs (Known mark.And) = Some (relation_of (λ r. Ands done place (rs ++ r ∷ [])))
-ands_step done place rs (Known mark.Semicolon) = Some (Await (Mark mark.LineEnd) (Body (done ++ Assert place rs ∷ [])))
-ands_step done place rs k = None
+-- a condition in parentheses
+abbrev pub condition : ℕ → (ExprTree → Plan) → Plan
+condition room next = await mark.Open (λ a. expr false room (λ e. await mark.Close (λ b. next e)))
 
-abbrev pub assigned_to : List Stmt → (Expr → Stmt) → Plan
-assigned_to done make = Await (Mark mark.Assign) (expression_of (λ e. Await (Mark mark.Semicolon) (Body (done ++ make e ∷ []))))
+-- a block, whose statements have this room
+abbrev pub block : ℕ → (StmtTrees → Plan) → Plan
+block room next = await mark.OpenBrace (λ o. lines room true true (λ ss e. next ss))
 
-abbrev pub printed : List Stmt → Plan
-printed done = Await (Mark mark.Open) (expression_of (λ e. Await (Mark mark.Close) (Await (Mark mark.Semicolon) (Body (done ++ Print e ∷ [])))))
+abbrev pub otherwise : ℕ → (StmtTrees → Plan) → Plan
+otherwise room next = peek mark.Else (λ s. block room next) (next no_stmts)
 
-abbrev pub asserted : List Stmt → Plan
-asserted done = Asserts (λ place. relation_of (λ r. Ands done place (r ∷ [])))
+abbrev pub declared : ℕ → (StmtTree → Plan) → Typed → Plan
+declared room next t = named (λ n. assigned room (λ q r. next (declare t n q r)))
 
-abbrev pub returned : List Stmt → Plan
-returned done = expression_of (λ e. Await (Mark mark.Semicolon) (Await (Mark mark.CloseBrace) (Last (record { statements = done; result = e }))))
+abbrev pub behind_first : ℕ → (StmtTree → Plan) → Place → List ℕ → Plan
+behind_first room next at n = peek mark.Open (λ a. called at n room (λ c. await mark.Semicolon (λ s. next (call_stmt c)))) (assigned room (λ q r. next (assign (named_at at n) q r)))
 
-abbrev pub body_step : List Stmt → Kind → Place → Option Plan
-body_step done (Known mark.Int) place = Some (Identifier (λ n. assigned_to done (λ e. Declare n e)))
-body_step done (Name n) place = Some (assigned_to done (λ e. Assign (record { name = n; place = place }) e))
-body_step done (Known mark.PrintInt) place = Some (printed done)
-body_step done (Known mark.Annotation) place = Some (asserted done)
-body_step done (Known mark.Return) place = Some (returned done)
-body_step done k place = None
+abbrev pub printed : ℕ → (StmtTree → Plan) → Place → Shape → Plan
+printed room next at s = condition room (λ e. await mark.Semicolon (λ c. next (print_stmt at s e)))
 
-abbrev pub identifier_step : (Named → Plan) → Kind → Place → Option Plan
-identifier_step next (Name n) place = Some (next (record { name = n; place = place }))
-identifier_step next k place = None
+abbrev pub returned : ℕ → (StmtTree → Plan) → Place → Plan
+returned room next at = expr false room (λ e. await mark.Semicolon (λ c. next (return_stmt at e)))
 
-abbrev pub asserts_step : (Place → Plan) → Kind → Place → Option Plan
-asserts_step next (Known mark.Assert) place = Some (next place)
-asserts_step next k place = None
+-- the blocks have one level less
+abbrev pub conditional : (room less : ℕ) → (StmtTree → Plan) → Place → Plan
+conditional room less next at = condition room (λ e. block less (λ ss. otherwise less (λ os. next (if_stmt at e ss os))))
 
-abbrev pub last_step : Program → Kind → Option Plan
-last_step p End = Some (Finished p)
-last_step p k = None
+abbrev pub looped : (room less : ℕ) → (StmtTree → Plan) → Place → Plan
+looped room less next at = condition room (λ e. notes room (λ ns. block less (λ ss. next (while_stmt at e ns ss))))
 
+abbrev pub asserted : ℕ → (StmtTree → Plan) → Plan
+asserted room next = await mark.Assert (λ w. noted false room w (λ n. next (assert_stmt n)))
+
+-- an invariant behind its `//@`
+abbrev pub invariant : ℕ → (NoteTree → Plan) → Plan
+invariant room next = await mark.LoopInvariant (λ at. noted false room at next)
+
+abbrev pub line_step : ℕ → (StmtTree → Plan) → Kind → Place → Option Plan
+line_step room next (Known mark.Int) at = Some (declared room next (typed_at at shape.Int))
+line_step room next (Known mark.Bool) at = Some (declared room next (typed_at at shape.Bool))
+line_step room next (Name n) at = Some (behind_first room next at n)
+line_step room next (Known mark.PrintInt) at = Some (printed room next at shape.Int)
+line_step room next (Known mark.PrintBool) at = Some (printed room next at shape.Bool)
+line_step room next (Known mark.Return) at = Some (returned room next at)
+line_step room next (Known mark.If) at = deeper room (λ r. conditional room r next at)
+line_step room next (Known mark.While) at = deeper room (λ r. looped room r next at)
+line_step room next (Known mark.Annotation) at = Some (asserted room next)
+line_step room next k at = None
+
+-- behind a statement
+abbrev pub after_line : ℕ → Bool → (StmtTrees → Place → Plan) → StmtTree → Plan
+after_line room any next s = lines room any (cond any true (is_return s)) (λ ss e. next (stmt s ss) e)
+
+abbrev pub lines_step : ℕ → (any now : Bool) → (StmtTrees → Place → Plan) → Kind → Place → Option Plan
+lines_step room any now next (Known mark.CloseBrace) at = cond now (Some (next no_stmts at)) None
+lines_step room any now next k at = line_step room (after_line room any next) k at
+
+abbrev pub parameter_plan : (Parameter → Plan) → Plan
+parameter_plan next = typed (λ t. named (λ n. next (record { typed = t; name = n })))
+
+abbrev pub parameters_plan : (List Parameter → Plan) → Plan
+parameters_plan next = peek mark.Close (λ b. next []) (parameter_plan (λ p. more_parameters (λ ps. next (p ∷ ps))))
+
+abbrev pub more_step : (List Parameter → Plan) → Kind → Option Plan
+more_step next (Known mark.Close) = Some (next [])
+more_step next (Known mark.Comma) = Some (parameter_plan (λ p. more_parameters (λ ps. next (p ∷ ps))))
+more_step next k = None
+
+-- a function's body, which is a block whose last statement is a `return`
+abbrev pub body : (StmtTrees → Place → Plan) → Plan
+body next = await mark.OpenBrace (λ o. lines body_room false false next)
+
+abbrev pub function : (FunctionTree → Plan) → Typed → Plan
+function next t =
+    named (λ n. await mark.Open (λ a. parameters_plan (λ ps. contract (λ cs. body (λ ss e.
+    next (record { typed = t; name = n; parameters = ps; contract = cs; body = ss; close = e }))))))
+
+abbrev pub after_function : (List FunctionTree → Plan) → FunctionTree → Plan
+after_function next f = functions (λ fs. next (f ∷ fs))
+
+abbrev pub is_end : Kind → Bool
+is_end End = true
+is_end k = false
+
+abbrev pub functions_step : (List FunctionTree → Plan) → Kind → Place → Option Plan
+functions_step next End at = Some (next [])
+functions_step next (Known mark.Int) at = Some (function (after_function next) (typed_at at shape.Int))
+functions_step next (Known mark.Bool) at = Some (function (after_function next) (typed_at at shape.Bool))
+functions_step next k at = None
+
+abbrev pub named_step : (Named → Plan) → Kind → Place → Option Plan
+named_step next (Name n) at = Some (next (named_at at n))
+named_step next k at = None
+
+abbrev pub typed_step : (Typed → Plan) → Kind → Place → Option Plan
+typed_step next (Known mark.Int) at = Some (next (typed_at at shape.Int))
+typed_step next (Known mark.Bool) at = Some (next (typed_at at shape.Bool))
+typed_step next k at = None
+
+-- a list that goes on behind `//@`, and its end elsewhere
+abbrev pub after_note : ℕ → (List NoteTree → Plan) → NoteTree → Plan
+after_note room next n = notes room (λ ns. next (n ∷ ns))
+
+abbrev pub after_clause : (List ClauseTree → Plan) → ClauseTree → Plan
+after_clause next c = contract (λ cs. next (c ∷ cs))
+
+abbrev pub after_link : Fixed → Bool → ℕ → (List ExprTree → Plan) → ExprTree → Plan
+after_link s f room next e = chain s f room (λ es. next (e ∷ es))
+
+-- what comes behind a token; None where it may not come
 abbrev pub step : Plan → Token → Option Plan
-step (Await w next) t = some_if (accepts w t.kind) next
-step (Identifier next) t = identifier_step next t.kind t.place
-step (Asserts next) t = asserts_step next t.kind t.place
-step (Operand room left next) t = operand_step room left next t.kind t.place
-step (Times room left a next) t = if is_star t.kind then product_step room left a next else step (next left a) t
-step (Adds room left a next) t = adds_step room left a next (step (next left a) t) (sum_operator t.kind)
-step (Compare next) t = compare_step next (comparison_of t.kind)
-step (Ands done place rs) t = ands_step done place rs t.kind
-step (Body done) t = body_step done t.kind t.place
-step (Last p) t = last_step p t.kind
-step (Finished p) t = None
+step (await f next) t = cond (is f t.kind) (Some (next t.place)) None
+step (named next) t = named_step next t.kind t.place
+step (typed next) t = typed_step next t.kind t.place
+step (peek f these others) t = cond (is f t.kind) (Some (these t.place)) (step others t)
+step (operand f room left next) t = operand_step f room left next t.kind t.place
+step (ops r f room left e next) t = ops_step r f room left e next (step (next e left) t) (of_rank r (operator_at t.kind)) t.place
+step (chain s f room next) t = cond (is s t.kind) (Some (expr f room (after_link s f room next))) (step (next []) t)
+step (right_side room next) t = right_step room next t.kind t.place
+step (notes room next) t = cond (is mark.Annotation t.kind) (Some (invariant room (after_note room next))) (step (next []) t)
+step (contract next) t = cond (is mark.Annotation t.kind) (Some (clause (after_clause next))) (step (next []) t)
+step (lines room any now next) t = lines_step room any now next t.kind t.place
+step (more_parameters next) t = more_step next t.kind
+step (functions next) t = functions_step next t.kind t.place
+step (finished p) t = None
 
 abbrev pub nowhere : Place
 nowhere = record { line = 0; column = 0 }
 
-abbrev pub finish : Plan → Result Program Place
-finish (Finished p) = Ok p
-finish (Times room left a next) = finish (next left a)
-finish (Adds room left a next) = finish (next left a)
+abbrev pub finish : Plan → Result ProgramTree Place
+finish (finished p) = Ok p
+finish (peek f these others) = finish others
+finish (ops r f room left e next) = finish (next e left)
+finish (chain s f room next) = finish (next [])
+finish (notes room next) = finish (next [])
+finish (contract next) = finish (next [])
 finish plan = Err nowhere
 
-abbrev pub go : Option Plan → (Plan → Result Program Place) → Place → Result Program Place
-go None more place = Err place
-go (Some plan) more place = more plan
+abbrev pub go : Option Plan → (Plan → Result ProgramTree Place) → Place → Result ProgramTree Place
+go None more at = Err at
+go (Some plan) more at = more plan
 
 -- the program that the tokens give, or the place of the token that may not come
-abbrev pub run : Plan → List Token → Result Program Place
+abbrev pub run : Plan → List Token → Result ProgramTree Place
 run plan [] = finish plan
 run plan (t ∷ ts) = go (step plan t) (λ q. run q ts) t.place
 
-abbrev pub head_wants : List Want
-head_wants = Mark mark.Int ∷ Main ∷ Mark mark.Open ∷ Mark mark.Close ∷ Mark mark.OpenBrace ∷ []
+-- a name and a parenthesis stand first
+abbrev pub name_first : Kind → List Token → Bool
+name_first (Name n) ts = starts mark.Open ts
+name_first k ts = false
+
+abbrev pub call_first : List Token → Bool
+call_first [] = false
+call_first (t ∷ ts) = name_first t.kind ts
+
+abbrev pub is_name : Kind → Bool
+is_name (Name n) = true
+is_name k = false
+
+-- a name stands first
+abbrev pub starts_name : List Token → Bool
+starts_name [] = false
+starts_name (t ∷ ts) = is_name t.kind
+
+-- a call from its name on
+abbrev pub whole_call : ℕ → (CallTree → Plan) → Plan
+whole_call room next = named (λ n. await mark.Open (λ a. arguments room (λ es. next (record { name = n; arguments = es }))))
+
+-- what the tokens give where a statement stands first
+abbrev pub line_run : ℕ → (StmtTree → Plan) → List Token → Result ProgramTree Place
+line_run room next [] = Err nowhere
+line_run room next (t ∷ ts) = go (line_step room next t.kind t.place) (λ q. run q ts) t.place
+
+abbrev pub program : List FunctionTree → Plan
+program fs = finished (record { functions = fs })
 
 abbrev pub start : Plan
-start = await head_wants (Body [])
+start = functions program
 
 -- the reading of the whole fails with this fault, of which want of memory says nothing
-abbrev pub FailsAs : Result Program Place → ReadFault → Type 0
-FailsAs whole (NotBuilt place) = whole ≡ Err place
+abbrev pub FailsAs : Result ProgramTree Place → ReadFault → Type 0
+FailsAs whole (NotBuilt at) = whole ≡ Err at
 FailsAs whole Memory = Unit {0}
 
 -- what a part of the reading answers: what the rest gives, or the fault of the whole
-abbrev pub Answers : {X : Type 0} → (X → Result Program Place) → Result Program Place → Result X ReadFault → Type 0
+abbrev pub Answers : {X : Type 0} → (X → Result ProgramTree Place) → Result ProgramTree Place → Result X ReadFault → Type 0
 Answers rest whole (Ok x) = whole ≡ rest x
 Answers rest whole (Err e) = FailsAs whole e

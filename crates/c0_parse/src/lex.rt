@@ -1,6 +1,6 @@
 ghost use Rattle.std.specs.Prelude.{◌≡◌, ◌≤◌, ◌<◌, ◌+◌, ◌^◌, length, take, fold, IfOk, Some, None, if◌then◌else◌};
 ghost use Rattle.gc0_base.specs.Places.{moved};
-ghost use Rattle.c0_parse.specs.Bytes.{is_space, is_newline, is_digit, is_word_byte, is_blank, is_number, word_length, symbol_length, decimal_value, begins_annotation, is_pair, is_identifier, is_other_keyword, is_annotation_keyword, keyword_of, symbol_of, open_kind, kind_of};
+ghost use Rattle.c0_parse.specs.Bytes.{is_space, is_newline, is_digit, is_word_byte, is_blank, is_number, word_length, symbol_length, decimal_value, begins_annotation, is_pair, is_identifier, is_other_keyword, is_annotation_keyword, is_library_call, is_backslash, keyword_of, annotation_word_of, word_of, symbol_of, open_kind, kind_of};
 ghost use Rattle.c0_parse.specs.Tokens.{size_at, inside_behind, tokens_of};
 
 use crate::token::{Fixed, Kind, Token};
@@ -98,6 +98,8 @@ fn size_at(text: &[u8]) -> usize
 {
     if is_word_byte(text[0]) {
         word_length(text)
+    } else if text[0] == 92 {
+        1 + word_length(&text[1..])
     } else {
         symbol_length(text)
     }
@@ -177,6 +179,9 @@ fn kind_of(alloc: Global, inside: bool, text: &[u8]) -> Result<Kind, AllocError>
     if let Some(fixed) = keyword_of(text) {
         return Ok(Kind::Known(fixed));
     }
+    if let Some(fixed) = word_of(inside, text) {
+        return Ok(Kind::Known(fixed));
+    }
     if let Some(fixed) = symbol_of(text) {
         return Ok(Kind::Known(fixed));
     }
@@ -202,12 +207,42 @@ fn keyword_of(text: &[u8]) -> Option<Fixed>
 {
     if text == b"int".as_slice() {
         Some(Fixed::Int)
+    } else if text == b"bool".as_slice() {
+        Some(Fixed::Bool)
+    } else if text == b"if".as_slice() {
+        Some(Fixed::If)
+    } else if text == b"else".as_slice() {
+        Some(Fixed::Else)
+    } else if text == b"while".as_slice() {
+        Some(Fixed::While)
     } else if text == b"return".as_slice() {
         Some(Fixed::Return)
-    } else if text == b"printint".as_slice() {
-        Some(Fixed::PrintInt)
     } else if text == b"assert".as_slice() {
         Some(Fixed::Assert)
+    } else if text == b"true".as_slice() {
+        Some(Fixed::True)
+    } else if text == b"false".as_slice() {
+        Some(Fixed::False)
+    } else if text == b"printint".as_slice() {
+        Some(Fixed::PrintInt)
+    } else if text == b"printbool".as_slice() {
+        Some(Fixed::PrintBool)
+    } else {
+        None
+    }
+}
+
+fn annotation_word_of(text: &[u8]) -> Option<Fixed>
+    ensures { result ≡ annotation_word_of text.now }
+{
+    if text == b"requires".as_slice() {
+        Some(Fixed::Requires)
+    } else if text == b"ensures".as_slice() {
+        Some(Fixed::Ensures)
+    } else if text == b"loop_invariant".as_slice() {
+        Some(Fixed::LoopInvariant)
+    } else if text == b"\\result".as_slice() {
+        Some(Fixed::Outcome)
     } else {
         None
     }
@@ -220,6 +255,8 @@ fn symbol_of(text: &[u8]) -> Option<Fixed>
         Some(Fixed::Open)
     } else if text == b")".as_slice() {
         Some(Fixed::Close)
+    } else if text == b",".as_slice() {
+        Some(Fixed::Comma)
     } else if text == b"{".as_slice() {
         Some(Fixed::OpenBrace)
     } else if text == b"}".as_slice() {
@@ -234,8 +271,12 @@ fn symbol_of(text: &[u8]) -> Option<Fixed>
         Some(Fixed::Minus)
     } else if text == b"*".as_slice() {
         Some(Fixed::Star)
+    } else if text == b"!".as_slice() {
+        Some(Fixed::Not)
     } else if text == b"&&".as_slice() {
         Some(Fixed::And)
+    } else if text == b"?".as_slice() {
+        Some(Fixed::Question)
     } else if text == b"==".as_slice() {
         Some(Fixed::Equal)
     } else if text == b"!=".as_slice() {
@@ -257,6 +298,16 @@ fn symbol_of(text: &[u8]) -> Option<Fixed>
     }
 }
 
+fn word_of(inside: bool, text: &[u8]) -> Option<Fixed>
+    ensures { result ≡ word_of inside text.now }
+{
+    if inside {
+        annotation_word_of(text)
+    } else {
+        None
+    }
+}
+
 fn is_identifier(inside: bool, text: &[u8]) -> bool
     requires { 0 < length text.now }
     ensures { result ≡ is_identifier inside text.now }
@@ -264,23 +315,18 @@ fn is_identifier(inside: bool, text: &[u8]) -> bool
     is_word_byte(text[0])
         && !is_digit(text[0])
         && !is_other_keyword(text)
+        && !is_library_call(text)
         && !(inside && is_annotation_keyword(text))
 }
 
 fn is_other_keyword(text: &[u8]) -> bool
     ensures { result ≡ is_other_keyword text.now }
 {
-    text == b"bool".as_slice()
-        || text == b"void".as_slice()
+    text == b"void".as_slice()
         || text == b"struct".as_slice()
         || text == b"typedef".as_slice()
-        || text == b"if".as_slice()
-        || text == b"else".as_slice()
-        || text == b"while".as_slice()
         || text == b"for".as_slice()
         || text == b"error".as_slice()
-        || text == b"true".as_slice()
-        || text == b"false".as_slice()
         || text == b"NULL".as_slice()
         || text == b"alloc".as_slice()
         || text == b"alloc_array".as_slice()
@@ -288,16 +334,21 @@ fn is_other_keyword(text: &[u8]) -> bool
         || text == b"char".as_slice()
         || text == b"break".as_slice()
         || text == b"continue".as_slice()
-        || text == b"printbool".as_slice()
+}
+
+fn is_library_call(text: &[u8]) -> bool
+    ensures { result ≡ is_library_call text.now }
+{
+    text == b"print".as_slice()
+        || text == b"println".as_slice()
+        || text == b"readint".as_slice()
+        || text == b"moreint".as_slice()
 }
 
 fn is_annotation_keyword(text: &[u8]) -> bool
     ensures { result ≡ is_annotation_keyword text.now }
 {
-    text == b"requires".as_slice()
-        || text == b"ensures".as_slice()
-        || text == b"loop_invariant".as_slice()
-        || text == b"fold".as_slice()
+    text == b"fold".as_slice()
         || text == b"unfold".as_slice()
         || text == b"predicate".as_slice()
         || text == b"acc".as_slice()

@@ -5,11 +5,24 @@ use sqlite_items::Items;
 #[derive(Clone, Copy, Debug, PartialEq, Eq)]
 pub enum Fixed {
     Int,
+    Bool,
+    If,
+    Else,
+    While,
     Return,
-    PrintInt,
     Assert,
+    True,
+    False,
+    PrintInt,
+    PrintBool,
+    Requires,
+    Ensures,
+    LoopInvariant,
+    /// `\result`
+    Outcome,
     Open,
     Close,
+    Comma,
     OpenBrace,
     CloseBrace,
     Semicolon,
@@ -17,7 +30,9 @@ pub enum Fixed {
     Plus,
     Minus,
     Star,
+    Not,
     And,
+    Question,
     Equal,
     NotEqual,
     Less,
@@ -36,8 +51,8 @@ pub enum Kind {
     Known(Fixed),
     Name(Items<u8>),
     Number(Word),
-    /// What the grammar shows nowhere: another keyword, a number of another
-    /// form, or a byte that begins no token.
+    /// What the grammar shows nowhere: another keyword, a library call that is no statement, a
+    /// number of another form, or a byte that begins no token.
     Foreign,
     /// The end of the text.
     End,
@@ -48,11 +63,4 @@ pub enum Kind {
 pub struct Token {
     pub kind: Kind,
     pub place: Place,
-}
-
-/// A token that the grammar fixes: a keyword or symbol, or the name `main`.
-#[derive(Clone, Copy, Debug, PartialEq, Eq)]
-pub enum Want {
-    Mark(Fixed),
-    Main,
 }

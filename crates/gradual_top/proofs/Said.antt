@@ -1,76 +1,88 @@
 -- From a line that was said to the answer.
-use Rattle.std.proofs.Common.{◌≡◌, List, ℕ, [], ◌∷◌, ◌++◌, length, Option, Some, None, Result, Ok, Err, IfOk, IfErr, inl, inr, refl, sym, subst, ◌∙◌, ap, arith}
-use Rattle.std.specs.Prelude.{◌⊎◌, ◌≤◌, string_bytes, String}
+use Rattle.std.proofs.Common.{◌≡◌, List, ℕ, [], ◌∷◌, length, Option, Some, None, Result, Ok, Err, IfOk, IfErr, inl, inr, refl, sym, subst, ◌∙◌, ap, arith, append-nil}
+use Rattle.std.specs.Prelude.{◌⊎◌, ◌≤◌}
 use Rattle.std.proofs.Math.Seq.{take-length}
 use Rattle.std.specs.declared.alloc.AllocError.{AllocError}
-use Rattle.std.specs.declared.alloc.Global.{Global}
 use Rattle.std.specs.Io.KnownBytes.{append_known}
 use Rattle.gc0_io.specs.Causes.{Rose}
 use Rattle.gc0_io.specs.Bytes.{TakesFront}
-use Rattle.c0_parse.specs.declared.tree.Program.{Program}
+use Rattle.gc0_base.specs.declared.site.Ending.{Ending}
+use Rattle.gc0_base.specs.declared.site.Ending.TheVariants as ending
+use Rattle.gc0_tree.specs.Tree.{Program}
+use Rattle.c0_parse.specs.Tree.{ProgramTree}
 use Rattle.c0_parse.specs.Reads.{Reads}
+use Rattle.c0_types.specs.Rules.{violations}
+use Rattle.c0_types.specs.Resolved.{resolved}
+use Rattle.c0_meaning.specs.Running.{Seen, meaning}
 use Rattle.gradual_top.specs.declared.status.Status.{Status}
-use Rattle.gradual_top.specs.declared.status.Status.TheVariants.{Returned, Stopped, Refused, Limit, Absent, ReadFault, WriteFault, Memory, NotBuilt, Usage}
-use Rattle.gradual_top.specs.declared.machine.Ending.{Ending}
-use Rattle.gradual_top.specs.declared.machine.Ending.TheVariants as ending
-use Rattle.gradual_top.specs.declared.names.NameFault.{NameFault}
-use Rattle.gradual_top.specs.declared.emit.Instr.{Instr}
-use Rattle.gradual_top.specs.Names.{name_faults, least_of}
-use Rattle.gradual_top.specs.Meaning.{Run, meaning}
-use Rattle.gradual_top.specs.Code.{program_code, run_code}
-use Rattle.gradual_top.specs.Lines.{line_of, status_of, refused_line}
-use Rattle.gradual_top.specs.Outcomes.{Call, Asks, Reaches, Answered, Ends, Ran, Says}
-use Rattle.gradual_top.proofs.Runs.{code_means}
+use Rattle.gradual_top.specs.declared.status.Status.TheVariants.{Returned, Stopped, Fault, StepsUsed, Refused, Limit, Absent, ReadFault, WriteFault, Memory, NotBuilt, Usage}
+use Rattle.gradual_top.specs.Lines.{line_of, status_of}
+use Rattle.gradual_top.specs.Outcomes.{Outputs, Call, Asks, Reaches, Answered, Ends, Ran, run_of, Says}
 
 pub said : (P : Status → Type 0) (e0 e1 : ℕ) (old new : Option (List ℕ)) (line : List ℕ) (status answer : Status) → Says e0 e1 old new line status answer → (new ≡ append_known old line → P status) → (Rose e0 e1 → P WriteFault) → P answer
 said P e0 e1 old new line status answer (inl w) f g = subst P (sym w.0) (f w.1)
 said P e0 e1 old new line status answer (inr w) f g = subst P (sym w.0) (g w.1)
 
-pub text_said : (P : Status → Type 0) (e0 e1 : ℕ) (old new : Option (List ℕ)) (made : Result (String Global) AllocError) (line : List ℕ) (status answer : Status) → IfOk made (λ t. string_bytes t ≡ line) → IfOk made (λ t. Says e0 e1 old new (string_bytes t) status answer) → IfErr made (λ _. (answer ≡ Memory) ⊎ ((answer ≡ WriteFault) × Rose e0 e1)) → (new ≡ append_known old line → P status) → (Rose e0 e1 → P WriteFault) → P Memory → P answer
-text_said P e0 e1 old new (Ok t) line status answer e s m f g h = said P e0 e1 old new line status answer (subst (λ l. Says e0 e1 old new l status answer) e s) f g
-text_said P e0 e1 old new (Err x) line status answer e s (inl w) f g h = subst P (sym w) h
-text_said P e0 e1 old new (Err x) line status answer e s (inr w) f g h = subst P (sym w.0) (g w.1)
-
-ran : (p : Program) (code : List Instr) → code ≡ program_code p → run_code code [] [] ≡ meaning p
-ran p code e = ap (λ c. run_code c [] []) e ∙ code_means p
+pub text_said : {V : Type 0} (items : V → List ℕ) (P : Status → Type 0) (e0 e1 : ℕ) (old new : Option (List ℕ)) (made : Result V AllocError) (line : List ℕ) (status answer : Status) → IfOk made (λ v. items v ≡ line) → IfOk made (λ v. Says e0 e1 old new (items v) status answer) → IfErr made (λ _. (answer ≡ Memory) ⊎ ((answer ≡ WriteFault) × Rose e0 e1)) → (new ≡ append_known old line → P status) → (Rose e0 e1 → P WriteFault) → P Memory → P answer
+text_said items P e0 e1 old new (Ok t) line status answer e s m f g h = said P e0 e1 old new line status answer (subst (λ l. Says e0 e1 old new l status answer) e s) f g
+text_said items P e0 e1 old new (Err x) line status answer e s (inl w) f g h = subst P (sym w) h
+text_said items P e0 e1 old new (Err x) line status answer e s (inr w) f g h = subst P (sym w.0) (g w.1)
 
 whole : (old new : Option (List ℕ)) (piece : List ℕ) → new ≡ append_known old piece → TakesFront old new piece
 whole old new piece e = record { count = length piece; within = omega arith; bytes = e ∙ ap (append_known old) (sym (take-length piece)) }
 
--- a run that came to its end
-of_ending : (p : Program) (o0 o1 e0 e1 : ℕ) (out0 out1 err0 err1 : Option (List ℕ)) (e : Ending) → Ran p out0 out1 err0 err1 (status_of e) → Ends p o0 o1 e0 e1 out0 out1 err0 err1 (status_of e)
-of_ending p o0 o1 e0 e1 out0 out1 err0 err1 (ending.Returned w) r = r
-of_ending p o0 o1 e0 e1 out0 out1 err0 err1 (ending.Stopped at) r = r
+-- a run that came to its ending
+of_ending : (text : List ℕ) (tree : ProgramTree) (n : ℕ) (o : Outputs) (e : Ending) → Ran text tree n o (status_of e) → Ends text tree n o (status_of e)
+of_ending text tree n o (ending.Returned w) r = r
+of_ending text tree n o (ending.Stop site) r = r
+of_ending text tree n o (ending.Fault f site) r = r
+of_ending text tree n o ending.StepsUsed r = r
 
-pub ok_ends : (p : Program) (o0 o1 e0 e1 : ℕ) (out0 out1 err0 err1 : Option (List ℕ)) (code : List Instr) (e : Ending) (made : Result (String Global) AllocError) (status answer : Status) → code ≡ program_code p → least_of (name_faults p) ≡ None → out1 ≡ append_known out0 (run_code code [] []).output → (run_code code [] []).ending ≡ e → status ≡ status_of e → IfOk made (λ t. string_bytes t ≡ line_of e) → IfOk made (λ t. Says e0 e1 err0 err1 (string_bytes t) status answer) → IfErr made (λ _. (answer ≡ Memory) ⊎ ((answer ≡ WriteFault) × Rose e0 e1)) → Ends p o0 o1 e0 e1 out0 out1 err0 err1 answer
-ok_ends p o0 o1 e0 e1 out0 out1 err0 err1 code e made status answer c n o d k t s m =
-    let r = ran p code c in
-    let out = o ∙ ap (λ q. append_known out0 q.output) r in
-    let front = whole out0 out1 (meaning p).output out in
-    let end : e ≡ (meaning p).ending = sym d ∙ ap (λ q. q.ending) r in
-    let line : line_of e ≡ line_of (meaning p).ending = ap line_of end in
-    text_said (Ends p o0 o1 e0 e1 out0 out1 err0 err1) e0 e1 err0 err1 made _ status answer t s m
-    (λ w. subst (Ends p o0 o1 e0 e1 out0 out1 err0 err1) (sym k) (of_ending p o0 o1 e0 e1 out0 out1 err0 err1 e (record { named = n; out = out; err = w ∙ ap (append_known err0) line; status = ap status_of end })))
+pub ok_ends : {V : Type 0} (items : V → List ℕ) (text : List ℕ) (tree : ProgramTree) (n : ℕ) (o : Outputs) (p : Program) (rc : Seen) (e : Ending) (made : Result V AllocError) (status answer : Status) → violations tree ≡ [] → p ≡ resolved tree → rc ≡ meaning p [] n → o.out_new ≡ append_known o.out_old rc.0 → rc.1 ≡ e → status ≡ status_of e → IfOk made (λ v. items v ≡ line_of text p e) → IfOk made (λ v. Says o.err_before o.err_after o.err_old o.err_new (items v) status answer) → IfErr made (λ _. (answer ≡ Memory) ⊎ ((answer ≡ WriteFault) × Rose o.err_before o.err_after)) → Ends text tree n o answer
+ok_ends items text tree n o p rc e made status answer v is c out1 d k t s m =
+    let r : rc ≡ run_of tree n = c ∙ ap (λ q. meaning q [] n) is in
+    let out = out1 ∙ ap (λ q. append_known o.out_old q.0) r in
+    let front = whole o.out_old o.out_new (run_of tree n).0 out in
+    let end : e ≡ (run_of tree n).1 = sym d ∙ ap (λ q. q.1) r in
+    let line : line_of text p e ≡ line_of text (resolved tree) (run_of tree n).1 = ap (λ q. line_of text q e) is ∙ ap (line_of text (resolved tree)) end in
+    text_said items (Ends text tree n o) o.err_before o.err_after o.err_old o.err_new made _ status answer t s m
+    (λ w. subst (Ends text tree n o) (sym k) (of_ending text tree n o e (record { typed = v; out = out; err = w ∙ ap (append_known o.err_old) line; status = ap status_of end })))
     (λ q. (front, inr q)) front
 
-pub write_ends : (p : Program) (o0 o1 e0 e1 : ℕ) (out0 out1 err0 err1 : Option (List ℕ)) (code : List Instr) (line : List ℕ) (answer : Status) → code ≡ program_code p → TakesFront out0 out1 (run_code code [] []).output → Rose o0 o1 → Says e0 e1 err0 err1 line WriteFault answer → Ends p o0 o1 e0 e1 out0 out1 err0 err1 answer
-write_ends p o0 o1 e0 e1 out0 out1 err0 err1 code line answer c f r s =
-    let front = subst (λ q. TakesFront out0 out1 q.output) (ran p code c) f in
-    said (Ends p o0 o1 e0 e1 out0 out1 err0 err1) e0 e1 err0 err1 line WriteFault answer s (λ e. (front, inl r)) (λ q. (front, inr q))
+front_of : (tree : ProgramTree) (n : ℕ) (o : Outputs) (p : Program) (rc : Seen) → p ≡ resolved tree → rc ≡ meaning p [] n → TakesFront o.out_old o.out_new rc.0 → TakesFront o.out_old o.out_new (run_of tree n).0
+front_of tree n o p rc is c f = subst (λ q. TakesFront o.out_old o.out_new q.0) (c ∙ ap (λ q. meaning q [] n) is) f
 
-pub memory_ends : (p : Program) (o0 o1 e0 e1 : ℕ) (out0 out1 err0 err1 : Option (List ℕ)) (code : List Instr) (line : List ℕ) (answer : Status) → code ≡ program_code p → TakesFront out0 out1 (run_code code [] []).output → Says e0 e1 err0 err1 line Memory answer → Ends p o0 o1 e0 e1 out0 out1 err0 err1 answer
-memory_ends p o0 o1 e0 e1 out0 out1 err0 err1 code line answer c f s =
-    let front = subst (λ q. TakesFront out0 out1 q.output) (ran p code c) f in
-    said (Ends p o0 o1 e0 e1 out0 out1 err0 err1) e0 e1 err0 err1 line Memory answer s (λ e. front) (λ q. (front, inr q))
+pub write_ends : (text : List ℕ) (tree : ProgramTree) (n : ℕ) (o : Outputs) (p : Program) (rc : Seen) (line : List ℕ) (answer : Status) → p ≡ resolved tree → rc ≡ meaning p [] n → TakesFront o.out_old o.out_new rc.0 → Rose o.out_before o.out_after → Says o.err_before o.err_after o.err_old o.err_new line WriteFault answer → Ends text tree n o answer
+write_ends text tree n o p rc line answer is c f r s =
+    let front = front_of tree n o p rc is c f in
+    said (Ends text tree n o) o.err_before o.err_after o.err_old o.err_new line WriteFault answer s (λ e. (front, inl r)) (λ q. (front, inr q))
 
-pub reached : (call : Call) (text : List ℕ) (program : Program) (status : Status) → Asks call text → Reads text program → Ends program call.out_before call.out_after call.err_before call.err_after call.out_old call.out_new call.err_old call.err_new status → Answered call status
-reached call text program Returned a r e = record { text = text; program = program; asks = a; reads = r; ends = e }
-reached call text program Stopped a r e = record { text = text; program = program; asks = a; reads = r; ends = e }
-reached call text program Refused a r e = record { text = text; program = program; asks = a; reads = r; ends = e }
-reached call text program WriteFault a r e = inr (record { text = text; program = program; asks = a; reads = r; ends = e })
-reached call text program Memory a r e = inr (record { text = text; program = program; asks = a; reads = r; ends = e })
-reached call text program Limit a r e = absurd e
-reached call text program Absent a r e = absurd e
-reached call text program ReadFault a r e = absurd e
-reached call text program NotBuilt a r e = absurd e
-reached call text program Usage a r e = absurd e
+pub memory_ends : (text : List ℕ) (tree : ProgramTree) (n : ℕ) (o : Outputs) (p : Program) (rc : Seen) (line : List ℕ) (answer : Status) → p ≡ resolved tree → rc ≡ meaning p [] n → TakesFront o.out_old o.out_new rc.0 → Says o.err_before o.err_after o.err_old o.err_new line Memory answer → Ends text tree n o answer
+memory_ends text tree n o p rc line answer is c f s =
+    let front = front_of tree n o p rc is c f in
+    said (Ends text tree n o) o.err_before o.err_after o.err_old o.err_new line Memory answer s (λ e. front) (λ q. (front, inr q))
+
+-- nothing was taken
+nothing : (old : Option (List ℕ)) (piece : List ℕ) → TakesFront old old piece
+nothing None piece = record { count = 0; within = omega arith; bytes = refl }
+nothing (Some xs) piece = record { count = 0; within = omega arith; bytes = ap Some (sym (append-nil xs)) }
+
+-- memory ran out before the run
+pub unrun_ends : (text : List ℕ) (tree : ProgramTree) (n : ℕ) (o : Outputs) (line : List ℕ) (answer : Status) → o.out_new ≡ o.out_old → Says o.err_before o.err_after o.err_old o.err_new line Memory answer → Ends text tree n o answer
+unrun_ends text tree n o line answer e s =
+    let front = subst (λ new. TakesFront o.out_old new (run_of tree n).0) (sym e) (nothing o.out_old (run_of tree n).0) in
+    said (Ends text tree n o) o.err_before o.err_after o.err_old o.err_new line Memory answer s (λ e. front) (λ q. (front, inr q))
+
+pub reached : (call : Call) (text : List ℕ) (steps : ℕ) (tree : ProgramTree) (status : Status) → Asks call text steps → Reads text tree → Ends text tree steps call.outputs status → Answered call status
+reached call text steps tree Returned a r e = record { text = text; steps = steps; tree = tree; asks = a; reads = r; ends = e }
+reached call text steps tree Stopped a r e = record { text = text; steps = steps; tree = tree; asks = a; reads = r; ends = e }
+reached call text steps tree Fault a r e = record { text = text; steps = steps; tree = tree; asks = a; reads = r; ends = e }
+reached call text steps tree StepsUsed a r e = record { text = text; steps = steps; tree = tree; asks = a; reads = r; ends = e }
+reached call text steps tree Refused a r e = record { text = text; steps = steps; tree = tree; asks = a; reads = r; ends = e }
+reached call text steps tree WriteFault a r e = inr (record { text = text; steps = steps; tree = tree; asks = a; reads = r; ends = e })
+reached call text steps tree Memory a r e = inr (record { text = text; steps = steps; tree = tree; asks = a; reads = r; ends = e })
+reached call text steps tree Limit a r e = absurd e
+reached call text steps tree Absent a r e = absurd e
+reached call text steps tree ReadFault a r e = absurd e
+reached call text steps tree NotBuilt a r e = absurd e
+reached call text steps tree Usage a r e = absurd e

@@ -1,6 +1,4 @@
-pub mod Meaning
-pub mod Names
-pub mod Code
 pub mod Requests
+pub mod Words
 pub mod Lines
 pub mod Outcomes

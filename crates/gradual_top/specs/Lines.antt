@@ -1,14 +1,22 @@
 -- The lines that are written on the error output, and the statuses. This project's own.
-use Rattle.std.specs.Prelude.{ℕ, List, ◌++◌, codes}
+use Rattle.std.specs.Prelude.{ℕ, List, [], ◌++◌, Option, Some, None, codes, slice_get}
 use Rattle.std.specs.Fmt.{decimal, signed_decimal}
 use Rattle.gc0_base.specs.Words.{signed}
 use Rattle.gc0_base.specs.declared.place.Place.{Place}
-use Rattle.gradual_top.specs.declared.machine.Ending.{Ending}
-use Rattle.gradual_top.specs.declared.machine.Ending.TheVariants as ending
-use Rattle.gradual_top.specs.declared.names.NameFault.{NameFault}
-use Rattle.gradual_top.specs.declared.names.NameFault.TheVariants.{Unknown, Twice}
+use Rattle.gc0_base.specs.declared.site.Site.{Site}
+use Rattle.gc0_base.specs.declared.site.Kind.{Kind}
+use Rattle.gc0_base.specs.declared.site.Kind.TheVariants as kind
+use Rattle.gc0_base.specs.declared.site.TrapKind.{TrapKind}
+use Rattle.gc0_base.specs.declared.site.TrapKind.TheVariants as trap
+use Rattle.gc0_base.specs.declared.site.Ending.{Ending}
+use Rattle.gc0_base.specs.declared.site.Ending.TheVariants as ending
+use Rattle.gc0_tree.specs.Tree.{Function, Program}
+use Rattle.gc0_tree.specs.Sites.{token_place}
+use Rattle.c0_types.specs.declared.violation.TypeFault.{TypeFault}
+use Rattle.c0_types.specs.declared.violation.TypeFault.TheVariants as fault
 use Rattle.gradual_top.specs.declared.status.Status.{Status}
-use Rattle.gradual_top.specs.declared.status.Status.TheVariants.{Returned, Stopped, Refused, Limit, Absent, ReadFault, WriteFault, Memory, NotBuilt, Usage}
+use Rattle.gradual_top.specs.declared.status.Status.TheVariants.{Returned, Stopped, Fault, StepsUsed, Refused, Limit, Absent, ReadFault, WriteFault, Memory, NotBuilt, Usage}
+use Rattle.gradual_top.specs.Words.{word_at}
 
 abbrev pub usage_line : List ℕ
 usage_line = codes "usage: run, full, check, explain, code, compare or self\n"
@@ -19,35 +27,96 @@ source_line = codes "limit source\n"
 abbrev pub read_fault_line : List ℕ
 read_fault_line = codes "read fault\n"
 
-abbrev pub write_fault_line : List ℕ
-write_fault_line = codes "write fault\n"
-
-abbrev pub memory_line : List ℕ
-memory_line = codes "memory\n"
-
 abbrev pub not_built_line : Place → List ℕ
 not_built_line p = codes "not built " ++ (decimal p.line ++ (codes ":" ++ (decimal p.column ++ codes "\n")))
 
 abbrev pub absent_line : List ℕ → List ℕ
 absent_line name = codes "absent " ++ (name ++ codes "\n")
 
-abbrev pub line_of : Ending → List ℕ
-line_of (ending.Returned w) = codes "result " ++ (signed_decimal (signed w.0) ++ codes "\n")
-line_of (ending.Stopped p) = codes "stopped " ++ (decimal p.line ++ (codes ":" ++ (decimal p.column ++ codes " assert\n")))
+-- a place and a space
+abbrev pub place_text : Place → List ℕ
+place_text p = decimal p.line ++ (codes ":" ++ (decimal p.column ++ codes " "))
 
-abbrev pub refused_line : NameFault → List ℕ
-refused_line (Unknown p) = codes "refused " ++ (decimal p.line ++ (codes ":" ++ (decimal p.column ++ codes " unknown\n")))
-refused_line (Twice p) = codes "refused " ++ (decimal p.line ++ (codes ":" ++ (decimal p.column ++ codes " twice\n")))
+-- a word, a place, and what there is to say of it
+abbrev pub place_line : List ℕ → Place → List ℕ → List ℕ
+place_line word place what = word ++ (place_text place ++ (what ++ codes "\n"))
+
+-- where the token of a site stands
+abbrev pub or_nowhere : Option Place → Place
+or_nowhere None = record { line = 0; column = 0 }
+or_nowhere (Some p) = p
+
+abbrev pub stop_place : Program → Site → Place
+stop_place p site = or_nowhere (token_place p site)
+
+abbrev pub name_of : Option Function → List ℕ
+name_of None = []
+name_of (Some f) = f.name
+
+abbrev pub function_name : Program → Site → List ℕ
+function_name p site = name_of (slice_get p.functions site.function)
+
+-- what stops a run at a site: at a call the callee is the word of the text there
+abbrev pub kind_word : Kind → List ℕ
+kind_word kind.Start = codes "requires "
+kind_word kind.Requires = codes "requires "
+kind_word kind.Ensures = codes "ensures "
+kind_word kind.Entry = codes "loop_invariant"
+kind_word kind.Again = codes "loop_invariant"
+kind_word kind.Assert = codes "assert"
+kind_word kind.Fold = codes "fold"
+kind_word kind.Unfold = codes "unfold"
+kind_word kind.Access = codes "access"
+kind_word kind.Trap = codes "access"
+
+abbrev pub kind_name : List ℕ → Program → Site → Place → Kind → List ℕ
+kind_name text p site place kind.Start = codes "main"
+kind_name text p site place kind.Requires = word_at text place
+kind_name text p site place kind.Ensures = function_name p site
+kind_name text p site place k = []
+
+abbrev pub what_of : List ℕ → Program → Site → Place → List ℕ
+what_of text p site place = kind_word site.kind ++ kind_name text p site place site.kind
+
+-- C0's own faults; none of them comes in the grammar that is built so far
+abbrev pub fault_word : TrapKind → List ℕ
+fault_word trap.Null = codes "null"
+fault_word trap.Division = codes "division"
+fault_word trap.Shift = codes "shift"
+fault_word trap.Assertion = codes "assert"
+fault_word trap.Raised = codes "error"
+fault_word trap.InputEnd = codes "input"
+
+-- the line of an ending of a program with this text
+abbrev pub line_of : List ℕ → Program → Ending → List ℕ
+line_of text p (ending.Returned w) = codes "result " ++ (signed_decimal (signed w.0) ++ codes "\n")
+line_of text p (ending.Stop site) = let place = stop_place p site in place_line (codes "stopped ") place (what_of text p site place)
+line_of text p (ending.Fault f site) = place_line (codes "fault ") (stop_place p site) (fault_word f)
+line_of text p ending.StepsUsed = codes "steps used\n"
+
+-- the line of a violation of the typing rules
+abbrev pub refused_line : TypeFault → List ℕ
+refused_line (fault.Unknown p) = place_line (codes "refused ") p (codes "unknown")
+refused_line (fault.Twice p) = place_line (codes "refused ") p (codes "twice")
+refused_line (fault.WrongType p) = place_line (codes "refused ") p (codes "wrong type")
+refused_line (fault.WrongCount p) = place_line (codes "refused ") p (codes "wrong count")
+refused_line (fault.AssignedInEnsures p) = place_line (codes "refused ") p (codes "assigned in ensures")
+refused_line (fault.NoMain p) = place_line (codes "refused ") p (codes "no main")
+refused_line fault.Memory = []
 
 -- the status of an ending
 abbrev pub status_of : Ending → Status
 status_of (ending.Returned w) = Returned
-status_of (ending.Stopped p) = Stopped
+status_of (ending.Stop site) = Stopped
+status_of (ending.Fault f site) = Fault
+status_of ending.StepsUsed = StepsUsed
 
 -- the exit status of the program
 abbrev pub code_of : Status → ℕ
 code_of Returned = 0
 code_of Stopped = 1
+code_of Fault = 2
+code_of StepsUsed = 3
 code_of Refused = 4
 code_of Limit = 7
 code_of Absent = 8

@@ -1,58 +1,168 @@
-ghost use Rattle.std.specs.Prelude.{◌≡◌, IfOk, string_bytes};
-ghost use Rattle.gradual_top.specs.Lines.{line_of, absent_line, not_built_line, refused_line};
+ghost use Rattle.std.specs.Prelude.{◌≡◌, ◌++◌, OnOk, IfOk, codes};
+ghost use Rattle.gc0_tree.specs.Views.{program_view};
+ghost use Rattle.gradual_top.specs.Lines.{place_text, place_line, fault_word, what_of, function_name, stop_place, or_nowhere, line_of, absent_line, not_built_line, refused_line};
 
-use crate::machine::Ending;
-use crate::names::NameFault;
-use gc0_base::Place;
+use crate::word::word_at;
+use c0_types::TypeFault;
+use gc0_base::{Ending, Kind, Place, Site, TrapKind};
+use gc0_tree::{Program, place_of};
 use std::alloc::{AllocError, Global};
 
-/// The line of an ending.
-pub fn ending_text(alloc: Global, ending: Ending) -> Result<String, AllocError>
-    ensures { IfOk result (λ text. string_bytes text ≡ line_of ending) }
+/// The line of an ending, with its line end. The text is that of the program.
+pub fn ending_text(
+    alloc: Global,
+    text: &[u8],
+    program: &Program,
+    ending: Ending,
+) -> Result<Vec<u8>, AllocError>
+    ensures { IfOk result (λ line. line.items ≡ line_of text.now (program_view program.now) ending) }
 {
     match ending {
         Ending::Returned(word) => {
             let value = word.to_i32();
-            format!(in alloc; "result {value}\n")
+            Ok(format!(in alloc; "result {value}\n")?.into_bytes())
         }
-        Ending::Stopped(place) => {
-            let line = place.line;
-            let column = place.column;
-            format!(in alloc; "stopped {line}:{column} assert\n")
+        Ending::Stop(site) => {
+            let place = stop_place(alloc, program, site)?;
+            let what = what_of(alloc, text, program, site, place)?;
+            place_line(alloc, b"stopped ", place, &what)
         }
+        Ending::Fault(fault, site) => {
+            let place = stop_place(alloc, program, site)?;
+            place_line(alloc, b"fault ", place, fault_word(fault))
+        }
+        Ending::StepsUsed => Vec::from_slice(alloc, b"steps used\n"),
     }
 }
 
 /// The line of a file that is not there.
-pub fn absent_text(alloc: Global, name: &str) -> Result<String, AllocError>
-    ensures { IfOk result (λ text. string_bytes text ≡ absent_line name.now) }
+pub fn absent_text(alloc: Global, name: &str) -> Result<Vec<u8>, AllocError>
+    ensures { IfOk result (λ line. line.items ≡ absent_line name.now) }
 {
-    format!(in alloc; "absent {name}\n")
+    Ok(format!(in alloc; "absent {name}\n")?.into_bytes())
 }
 
 /// The line of a text that is not built.
-pub fn not_built_text(alloc: Global, place: Place) -> Result<String, AllocError>
-    ensures { IfOk result (λ text. string_bytes text ≡ not_built_line place) }
+pub fn not_built_text(alloc: Global, place: Place) -> Result<Vec<u8>, AllocError>
+    ensures { IfOk result (λ line. line.items ≡ not_built_line place) }
 {
     let line = place.line;
     let column = place.column;
-    format!(in alloc; "not built {line}:{column}\n")
+    Ok(format!(in alloc; "not built {line}:{column}\n")?.into_bytes())
 }
 
-/// The line of a refused name.
-pub fn refused_text(alloc: Global, fault: NameFault) -> Result<String, AllocError>
-    ensures { IfOk result (λ text. string_bytes text ≡ refused_line fault) }
+/// The line of a violation of the typing rules. Want of memory is none, and has no line.
+pub fn refused_text(alloc: Global, fault: TypeFault) -> Result<Vec<u8>, AllocError>
+    ensures { IfOk result (λ line. line.items ≡ refused_line fault) }
 {
     match fault {
-        NameFault::Unknown(place) => {
-            let line = place.line;
-            let column = place.column;
-            format!(in alloc; "refused {line}:{column} unknown\n")
+        TypeFault::Unknown(place) => place_line(alloc, b"refused ", place, b"unknown"),
+        TypeFault::Twice(place) => place_line(alloc, b"refused ", place, b"twice"),
+        TypeFault::WrongType(place) => place_line(alloc, b"refused ", place, b"wrong type"),
+        TypeFault::WrongCount(place) => place_line(alloc, b"refused ", place, b"wrong count"),
+        TypeFault::AssignedInEnsures(place) => {
+            place_line(alloc, b"refused ", place, b"assigned in ensures")
         }
-        NameFault::Twice(place) => {
-            let line = place.line;
-            let column = place.column;
-            format!(in alloc; "refused {line}:{column} twice\n")
-        }
+        TypeFault::NoMain(place) => place_line(alloc, b"refused ", place, b"no main"),
+        TypeFault::Memory => Ok(Vec::new(alloc)),
     }
+}
+
+// A line of a word, a place, and what there is to say of it.
+fn place_line(alloc: Global, word: &[u8], place: Place, what: &[u8]) -> Result<Vec<u8>, AllocError>
+    ensures { IfOk result (λ line. line.items ≡ place_line word.now place what.now) }
+{
+    let at = place_text(alloc, place)?;
+    let mut line = Vec::from_slice(alloc, word)?;
+    put(&mut line, &at)?;
+    put(&mut line, what)?;
+    put(&mut line, b"\n")?;
+    Ok(line)
+}
+
+// A place and a space.
+fn place_text(alloc: Global, place: Place) -> Result<Vec<u8>, AllocError>
+    ensures { IfOk result (λ at. at.items ≡ place_text place) }
+{
+    let line = place.line;
+    let column = place.column;
+    Ok(format!(in alloc; "{line}:{column} ")?.into_bytes())
+}
+
+// What stops the run at a site, at its place.
+fn what_of(
+    alloc: Global,
+    text: &[u8],
+    program: &Program,
+    site: Site,
+    place: Place,
+) -> Result<Vec<u8>, AllocError>
+    ensures { IfOk result (λ what. what.items ≡ what_of text.now (program_view program.now) site place) }
+{
+    match site.kind {
+        Kind::Start => named(alloc, b"requires ", b"main"),
+        Kind::Requires => named(alloc, b"requires ", word_at(text, place)),
+        Kind::Ensures => named(alloc, b"ensures ", function_name(program, site)),
+        Kind::Entry | Kind::Again => named(alloc, b"loop_invariant", b""),
+        Kind::Assert => named(alloc, b"assert", b""),
+        Kind::Fold => named(alloc, b"fold", b""),
+        Kind::Unfold => named(alloc, b"unfold", b""),
+        Kind::Access | Kind::Trap => named(alloc, b"access", b""),
+    }
+}
+
+// A word, and the name behind it.
+fn named(alloc: Global, word: &[u8], name: &[u8]) -> Result<Vec<u8>, AllocError>
+    ensures { IfOk result (λ what. what.items ≡ word.now ++ name.now) }
+{
+    let mut what = Vec::from_slice(alloc, word)?;
+    put(&mut what, name)?;
+    Ok(what)
+}
+
+// The name of the function of a site.
+fn function_name(program: &Program, site: Site) -> &[u8]
+    ensures { result.now ≡ function_name (program_view program.now) site }
+{
+    match program.functions.get(site.function as usize) {
+        Some(function) => function.name.as_slice(),
+        None => b"",
+    }
+}
+
+// The place of a site.
+fn stop_place(alloc: Global, program: &Program, site: Site) -> Result<Place, AllocError>
+    ensures { IfOk result (λ place. place ≡ stop_place (program_view program.now) site) }
+{
+    Ok(or_nowhere(place_of(alloc, program, site)?))
+}
+
+fn or_nowhere(place: Option<Place>) -> Place
+    ensures { result ≡ or_nowhere place }
+{
+    match place {
+        Some(place) => place,
+        None => Place { line: 0, column: 0 },
+    }
+}
+
+fn fault_word(fault: TrapKind) -> &'static [u8]
+    ensures { result.now ≡ fault_word fault }
+{
+    match fault {
+        TrapKind::Null => b"null",
+        TrapKind::Division => b"division",
+        TrapKind::Shift => b"shift",
+        TrapKind::Assertion => b"assert",
+        TrapKind::Raised => b"error",
+        TrapKind::InputEnd => b"input",
+    }
+}
+
+// One more piece of a line.
+fn put(line: &mut Vec<u8>, piece: &[u8]) -> Result<(), AllocError>
+    ensures { OnOk result (line.new.items ≡ line.old.items ++ piece.now) }
+{
+    line.extend_from_slice(piece)?;
+    Ok(())
 }

@@ -8,6 +8,10 @@ pub enum Status {
     Returned,
     /// A contract of the program was false.
     Stopped,
+    /// C0's own fault.
+    Fault,
+    /// The run took as many steps as it may.
+    StepsUsed,
     /// A rule of the language is broken.
     Refused,
     /// A limit is passed.
@@ -34,6 +38,8 @@ impl Status {
         match self {
             Status::Returned => 0,
             Status::Stopped => 1,
+            Status::Fault => 2,
+            Status::StepsUsed => 3,
             Status::Refused => 4,
             Status::Limit => 7,
             Status::Absent => 8,

@@ -1,26 +1,33 @@
-ghost use Rattle.std.specs.Prelude.{◌≡◌, ◌≤◌, ◌⊎◌, map, string_bytes, IfOk, IfErr};
+ghost use Rattle.std.specs.Prelude.{◌≡◌, ◌≤◌, ◌⊎◌, [], map, string_bytes, IfOk, IfErr};
 ghost use Rattle.gc0_io.specs.Causes.{Rose};
-ghost use Rattle.gradual_top.specs.Outcomes.{Call, Answered, IsMeant, IsComplete, Ends, Says};
+ghost use Rattle.c0_parse.specs.Reads.{Reads};
+ghost use Rattle.c0_parse.specs.Views.{program_view};
+ghost use Rattle.std.specs.Io.KnownBytes.{append_known};
+ghost use Rattle.gc0_io.specs.Bytes.{TakesFront};
+ghost use Rattle.stack_code.specs.Views.{code_view};
+ghost use Rattle.stack_code.specs.Machine.{run_code};
+ghost use Rattle.stack_runner.specs.Built.{IsBuiltCode};
 ghost use Rattle.gradual_top.specs.Lines.{status_of};
+ghost use Rattle.gradual_top.specs.Outcomes.{Answered, IsMeant, IsComplete, Ends, Says};
 
-use crate::emit::compile;
 use crate::lines::{absent_text, ending_text, not_built_text, refused_text};
-use crate::machine::{Ending, RunFault, run};
-use crate::names::fault_of;
-use crate::request::{file_of, request_of};
+use crate::request::request_of;
 use crate::status::Status;
-use c0_parse::{Program, ReadFault, one_tree, read};
-use gc0_base::Limits;
+use c0_parse::{ReadFault, one_tree, read};
+use c0_types::{TypeFault, resolve};
+use gc0_base::{Ending, Limits};
 use gc0_io::{Fetched, Files, Sink, Source, write_all};
+use stack_code::{Code, generate};
+use stack_runner::{Machine, RunFault, built_programs_have_built_code};
 use std::alloc::{AllocError, Global};
 
 const USAGE: &[u8] = b"usage: run, full, check, explain, code, compare or self\n";
 
 /// Does what the words after the program's name ask for, and answers how it ended.
 ///
-/// `run FILE` compiles the file with every check and runs it. What the program writes goes to
-/// `out`, by one write as it is reached; `err` takes one line. The status says how it ended.
-/// The input is not read yet.
+/// `run [--steps N] FILE` compiles the file with every check and runs it for at most N steps.
+/// What the program writes goes to `out`, by one write as it is reached; `err` takes one line.
+/// The status says how it ended. The input is not read yet.
 pub fn gradual<F: Files, S: Source, O: Sink, E: Sink>(
     alloc: Global,
     words: &[String],
@@ -35,45 +42,25 @@ pub fn gradual<F: Files, S: Source, O: Sink, E: Sink>(
       files = F.contents files.old;
       read_before = F.faults files.old;
       read_after = F.faults files.new;
-      out_before = O.faults out.old;
-      out_after = O.faults out.new;
-      err_before = E.faults err.old;
-      err_after = E.faults err.new;
-      out_old = O.taken out.old;
-      out_new = O.taken out.new;
-      err_old = E.taken err.old;
-      err_new = E.taken err.new;
+      outputs = record { out_before = O.faults out.old; out_after = O.faults out.new; err_before = E.faults err.old; err_after = E.faults err.new; out_old = O.taken out.old; out_new = O.taken out.new; err_old = E.taken err.old; err_new = E.taken err.new };
     }) result }
-    // The run of a file whose text has a tree writes what the tree means, and nothing else.
+    // The run theorem: the run of a file whose text has a tree writes what the tree means, and
+    // nothing else.
     ensures meaning { IsMeant (record {
       words = map string_bytes words.now;
       files = F.contents files.old;
       read_before = F.faults files.old;
       read_after = F.faults files.new;
-      out_before = O.faults out.old;
-      out_after = O.faults out.new;
-      err_before = E.faults err.old;
-      err_after = E.faults err.new;
-      out_old = O.taken out.old;
-      out_new = O.taken out.new;
-      err_old = E.taken err.old;
-      err_new = E.taken err.new;
+      outputs = record { out_before = O.faults out.old; out_after = O.faults out.new; err_before = E.faults err.old; err_after = E.faults err.new; out_old = O.taken out.old; out_new = O.taken out.new; err_old = E.taken err.old; err_new = E.taken err.new };
     }) result }
-    // Where no device fails, a text that has a tree with its names in order is run to its
-    // end, unless memory runs out.
+    // Where no device fails, a text that has a tree which breaks no typing rule is run to its
+    // ending, unless memory runs out.
     ensures complete { IsComplete (record {
       words = map string_bytes words.now;
       files = F.contents files.old;
       read_before = F.faults files.old;
       read_after = F.faults files.new;
-      out_before = O.faults out.old;
-      out_after = O.faults out.new;
-      err_before = E.faults err.old;
-      err_after = E.faults err.new;
-      out_old = O.taken out.old;
-      out_new = O.taken out.new;
-      err_old = E.taken err.old;
-      err_new = E.taken err.new;
+      outputs = record { out_before = O.faults out.old; out_after = O.faults out.new; err_before = E.faults err.old; err_after = E.faults err.new; out_old = O.taken out.old; out_new = O.taken out.new; err_old = E.taken err.old; err_new = E.taken err.new };
     }) result }
     ensures reads_later { F.faults files.old ≤ F.faults files.new }
     ensures out_later { O.faults out.old ≤ O.faults out.new }
@@ -96,14 +83,7 @@ fn serve<F: Files, O: Sink, E: Sink>(
       files = F.contents files.old;
       read_before = F.faults files.old;
       read_after = F.faults files.new;
-      out_before = O.faults out.old;
-      out_after = O.faults out.new;
-      err_before = E.faults err.old;
-      err_after = E.faults err.new;
-      out_old = O.taken out.old;
-      out_new = O.taken out.new;
-      err_old = E.taken err.old;
-      err_new = E.taken err.new;
+      outputs = record { out_before = O.faults out.old; out_after = O.faults out.new; err_before = E.faults err.old; err_after = E.faults err.new; out_old = O.taken out.old; out_new = O.taken out.new; err_old = E.taken err.old; err_new = E.taken err.new };
     }) result }
     ensures reads_later { F.faults files.old ≤ F.faults files.new }
     ensures out_later { O.faults out.old ≤ O.faults out.new }
@@ -112,7 +92,7 @@ fn serve<F: Files, O: Sink, E: Sink>(
     let Some(request) = request_of(words) else {
         return say(err, USAGE, Status::Usage);
     };
-    let file = file_of(request);
+    let file = request.file();
     let text = match files.fetch(alloc, file, Limits::SOURCE) {
         Fetched::Found(text) => text,
         Fetched::TooLong => return say(err, b"limit source\n", Status::Limit),
@@ -120,41 +100,68 @@ fn serve<F: Files, O: Sink, E: Sink>(
         Fetched::Failed => return say(err, b"read fault\n", Status::ReadFault),
         Fetched::Memory => return say(err, b"memory\n", Status::Memory),
     };
-    let program = match read(alloc, text.as_slice()) {
-        Ok(program) => program,
+    let parsed = match read(alloc, text.as_slice()) {
+        Ok(parsed) => parsed,
         Err(ReadFault::NotBuilt(place)) => {
             return say_text(err, not_built_text(alloc, place), Status::NotBuilt);
         }
         Err(ReadFault::Memory) => return say(err, b"memory\n", Status::Memory),
     };
-    run_program(alloc, &program, out, err)
+    run_text(alloc, text.as_slice(), &parsed, request.steps(), out, err)
 }
 
-// Runs a program, and writes the line of its end.
-fn run_program<O: Sink, E: Sink>(
+// Runs the program of a text, and writes the line of its end.
+fn run_text<O: Sink, E: Sink>(
     alloc: Global,
-    program: &Program,
+    text: &[u8],
+    parsed: &c0_parse::Program,
+    steps: u64,
     out: &mut O,
     err: &mut E,
 ) -> Status
-    ensures ends { Ends program.now (O.faults out.old) (O.faults out.new) (E.faults err.old) (E.faults err.new) (O.taken out.old) (O.taken out.new) (E.taken err.old) (E.taken err.new) result }
+    requires reads { Reads text.now (program_view parsed.now) }
+    requires few { steps ≤ 10000000 }
+    ensures ends { Ends text.now (program_view parsed.now) steps (record { out_before = O.faults out.old; out_after = O.faults out.new; err_before = E.faults err.old; err_after = E.faults err.new; out_old = O.taken out.old; out_new = O.taken out.new; err_old = E.taken err.old; err_new = E.taken err.new }) result }
     ensures out_later { O.faults out.old ≤ O.faults out.new }
     ensures err_later { E.faults err.old ≤ E.faults err.new }
 {
-    match fault_of(alloc, program) {
-        Ok(None) => {}
-        Ok(Some(fault)) => return say_text(err, refused_text(alloc, fault), Status::Refused),
-        Err(_) => return say(err, b"memory\n", Status::Memory),
-    }
-    let code = match compile(alloc, program) {
+    let program = match resolve(alloc, parsed) {
+        Ok(program) => program,
+        Err(TypeFault::Memory) => return say(err, b"memory\n", Status::Memory),
+        Err(fault) => return say_text(err, refused_text(alloc, fault), Status::Refused),
+    };
+    let code = match generate(alloc, &program) {
         Ok(code) => code,
         Err(_) => return say(err, b"memory\n", Status::Memory),
     };
-    match run(alloc, &code, out) {
-        Ok(ending) => say_text(err, ending_text(alloc, ending), status_of(ending)),
+    built_programs_have_built_code();
+    match run_code(alloc, &code, steps, out) {
+        Ok(ending) => say_text(
+            err,
+            ending_text(alloc, text, &program, ending),
+            status_of(ending),
+        ),
         Err(RunFault::Write) => say(err, b"write fault\n", Status::WriteFault),
         Err(RunFault::Memory) => say(err, b"memory\n", Status::Memory),
     }
+}
+
+// Runs a code without input, for at most so many steps.
+fn run_code<O: Sink>(
+    alloc: Global,
+    code: &Code<'_>,
+    steps: u64,
+    out: &mut O,
+) -> Result<Ending, RunFault>
+    requires built { IsBuiltCode (code_view code.now) }
+    requires few { steps ≤ 10000000 }
+    ensures ok { IfOk result (λ e. (O.taken out.new ≡ append_known (O.taken out.old) (run_code (code_view code.now) [] steps).0) × ((run_code (code_view code.now) [] steps).1 ≡ e)) }
+    ensures front { IfErr result (λ _. TakesFront (O.taken out.old) (O.taken out.new) (run_code (code_view code.now) [] steps).0) }
+    ensures cause { IfErr result (λ e. e ≡ RunFault.Write → Rose (O.faults out.old) (O.faults out.new)) }
+    ensures later { O.faults out.old ≤ O.faults out.new }
+{
+    let mut machine = Machine::new(alloc, code, &[], steps)?;
+    machine.run(out)
 }
 
 fn status_of(ending: Ending) -> Status
@@ -162,7 +169,9 @@ fn status_of(ending: Ending) -> Status
 {
     match ending {
         Ending::Returned(_) => Status::Returned,
-        Ending::Stopped(_) => Status::Stopped,
+        Ending::Stop(_) => Status::Stopped,
+        Ending::Fault(_, _) => Status::Fault,
+        Ending::StepsUsed => Status::StepsUsed,
     }
 }
 
@@ -177,14 +186,14 @@ fn say<E: Sink>(err: &mut E, line: &[u8], status: Status) -> Status
     }
 }
 
-// Writes a line that was made, and answers with this status.
-fn say_text<E: Sink>(err: &mut E, line: Result<String, AllocError>, status: Status) -> Status
-    ensures said { IfOk line (λ text. Says (E.faults err.old) (E.faults err.new) (E.taken err.old) (E.taken err.new) (string_bytes text) status result) }
+// Writes a line that was made, and answers with this status; the line of memory where it was not.
+fn say_text<E: Sink>(err: &mut E, line: Result<Vec<u8>, AllocError>, status: Status) -> Status
+    ensures said { IfOk line (λ text. Says (E.faults err.old) (E.faults err.new) (E.taken err.old) (E.taken err.new) text.items status result) }
     ensures memory { IfErr line (λ _. (result ≡ Status.Memory) ⊎ ((result ≡ Status.WriteFault) × Rose (E.faults err.old) (E.faults err.new))) }
     ensures later { E.faults err.old ≤ E.faults err.new }
 {
     match line {
-        Ok(text) => say(err, text.as_bytes(), status),
+        Ok(text) => say(err, &text, status),
         Err(_) => say(err, b"memory\n", Status::Memory),
     }
 }
