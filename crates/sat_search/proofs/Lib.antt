@@ -1,0 +1,10 @@
+pub mod Analyzing
+pub mod Jumps
+pub mod Lists
+pub mod Numbers
+pub mod Places
+pub mod Settling
+pub mod States
+pub mod Trails
+pub mod Counting
+pub mod Solutions
