@@ -1,0 +1,6 @@
+pub mod Gates
+pub mod Bits
+pub mod Groups
+pub mod Circuits
+pub mod Valuations
+pub mod Queries

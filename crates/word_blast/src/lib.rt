@@ -1,0 +1,12 @@
+//! Terms as clauses: a circuit of gates for each operator, and what its clauses say.
+#![tactic(auto)]
+
+mod blasted;
+mod builder;
+mod gate;
+mod groups;
+mod query;
+
+pub use blasted::Input;
+pub use gate::Gate;
+pub use query::{BlastRefusal, Clauses, MAX_WEIGHT, Query, blast, valuation_of};

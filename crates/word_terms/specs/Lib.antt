@@ -1,0 +1,6 @@
+pub mod Feeding
+pub mod Terms
+pub mod Tables
+pub mod Laws
+pub mod Weights
+pub mod Worth
