@@ -177,3 +177,6 @@ fn number_of(bit: bool) -> u32
 {
     u32::from(bit)
 }
+
+#[cfg(test)]
+mod tests;

@@ -107,3 +107,49 @@ fn operators_at_edge_words(rt: HostRuntime) {
         assert_eq!(rt; of_two(op, Word(left), Word(right)).0, expected);
     }
 }
+
+// The operators of one part, at the same words, and at both truths.
+const UNARY_CASES: [(Op1, u32, u32); 16] = [
+    (Op1::Neg, 0, 0),
+    (Op1::Neg, 1, 4294967295),
+    (Op1::Neg, 4294967295, 1),
+    (Op1::Neg, 2147483648, 2147483648),
+    (Op1::Neg, 2147483647, 2147483649),
+    (Op1::Neg, 31, 4294967265),
+    (Op1::Neg, 32, 4294967264),
+    (Op1::Not, 0, 4294967295),
+    (Op1::Not, 1, 4294967294),
+    (Op1::Not, 4294967295, 0),
+    (Op1::Not, 2147483648, 2147483647),
+    (Op1::Not, 2147483647, 2147483648),
+    (Op1::Not, 31, 4294967264),
+    (Op1::Not, 32, 4294967263),
+    (Op1::Flip, 0, 1),
+    (Op1::Flip, 1, 0),
+];
+
+#[test]
+fn operators_of_one_part(rt: HostRuntime) {
+    for (op, part, expected) in UNARY_CASES {
+        assert_eq!(rt; of_one(op, Word(part)).0, expected);
+    }
+}
+
+// Conjunction and disjunction at the four pairs of truths.
+const TRUTH_CASES: [(Op2, u32, u32, u32); 8] = [
+    (Op2::Both, 0, 0, 0),
+    (Op2::Both, 0, 1, 0),
+    (Op2::Both, 1, 0, 0),
+    (Op2::Both, 1, 1, 1),
+    (Op2::Either, 0, 0, 0),
+    (Op2::Either, 0, 1, 1),
+    (Op2::Either, 1, 0, 1),
+    (Op2::Either, 1, 1, 1),
+];
+
+#[test]
+fn operators_at_truths(rt: HostRuntime) {
+    for (op, left, right, expected) in TRUTH_CASES {
+        assert_eq!(rt; of_two(op, Word(left), Word(right)).0, expected);
+    }
+}
