@@ -1,0 +1,5 @@
+use Rattle.c0_lex.proofs.Cuts.{each_text}
+use Rattle.c0_lex.proofs.laws.each_text.Goals as goal
+
+pub returns : goal.returns
+returns c = each_text
