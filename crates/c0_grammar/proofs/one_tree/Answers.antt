@@ -1,0 +1,5 @@
+use Rattle.c0_grammar.proofs.Enters.{one}
+use Rattle.c0_grammar.proofs.one_tree.Goals as goal
+
+pub returns : goal.returns
+returns c = one

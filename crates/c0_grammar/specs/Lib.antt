@@ -1,0 +1,9 @@
+pub mod Tokens
+pub mod Lists
+pub mod Written
+pub mod Allowed
+pub mod Texts
+pub mod Grammar
+pub mod Plan
+pub mod Reads
+pub mod Examples
