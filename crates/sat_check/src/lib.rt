@@ -8,12 +8,14 @@
 //! satisfies the clauses.
 #![tactic(auto)]
 
+mod cause;
 mod checker;
 mod clause;
 mod laws;
 mod log;
 mod valuation;
 
+pub use cause::Cause;
 pub use checker::{Scratch, Verdict, check, named};
 pub use clause::{Clause, Lit, Lits, are_below};
 pub use laws::refutation_is_sound;

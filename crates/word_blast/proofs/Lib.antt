@@ -13,6 +13,7 @@ pub mod Under
 pub mod Rows
 pub mod Steps
 pub mod Exact
+pub mod Bounded
 pub mod Loops
 pub mod Walks
 pub mod Asked

@@ -4,3 +4,4 @@ pub mod Groups
 pub mod Circuits
 pub mod Valuations
 pub mod Queries
+pub mod Bounds

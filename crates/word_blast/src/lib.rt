@@ -5,8 +5,10 @@ mod blasted;
 mod builder;
 mod gate;
 mod groups;
+mod laws;
 mod query;
 
 pub use blasted::Input;
 pub use gate::Gate;
+pub use laws::circuits_are_below;
 pub use query::{BlastRefusal, Clauses, MAX_WEIGHT, Query, blast, valuation_of};

@@ -1,0 +1,5 @@
+pub mod Questions
+pub mod Answers
+pub mod Solving
+pub mod Settling
+pub mod Sheets

@@ -1,0 +1,3 @@
+//! Questions whose answers are known, and one of each kind of answer.
+mod questions;
+mod sheet;
