@@ -1,0 +1,213 @@
+#!/usr/bin/env python3
+"""Runs sat_cli and the field's solvers over generated formulas: compares their answers, checks each
+model and each proof, and gives their times as ratios.
+
+    peers.py [--quick] [--answers N] [--conflicts N] [--limit SECONDS] PROGRAM
+
+PROGRAM is the built sat_cli. Peers are minisat, picosat and cadical, where they are installed.
+Prints tables in Markdown; status 1 where any answer, model or proof is wrong.
+"""
+import argparse
+import math
+import os
+import random
+import resource
+import shutil
+import signal
+import subprocess
+import sys
+import tempfile
+
+import lrat_check
+import make_formulas
+
+PEERS = {
+    "minisat": lambda cnf, out: ["minisat", "-verb=0", cnf, out],
+    "picosat": lambda cnf, out: ["picosat", cnf],
+    "cadical": lambda cnf, out: ["cadical", "-q", cnf],
+}
+NAMES = {10: "sat", 20: "unsat", 0: "unknown"}
+
+
+def spent():
+    """The processor time of all children that have ended."""
+    used = resource.getrusage(resource.RUSAGE_CHILDREN)
+    return used.ru_utime + used.ru_stime
+
+
+class Run:
+    """The answer of one solver on one formula, and its processor time: other work on the machine
+    disturbs that less than the time on the clock."""
+
+    def __init__(self, command, limit):
+        start = spent()
+        stop = lambda: resource.setrlimit(resource.RLIMIT_CPU, (limit, limit + 1))
+        done = subprocess.run(command, capture_output=True, text=True, preexec_fn=stop)
+        self.out = done.stdout
+        if done.returncode == -signal.SIGXCPU:
+            self.answer = "time"
+        else:
+            self.answer = NAMES.get(done.returncode, f"status {done.returncode} {done.stderr.strip()}")
+        self.seconds = max(spent() - start, 0.001)
+
+
+class Bench:
+    def __init__(self, options):
+        self.options = options
+        self.folder = tempfile.mkdtemp(prefix="peers")
+        self.cnf = os.path.join(self.folder, "formula.cnf")
+        self.proof = os.path.join(self.folder, "proof.lrat")
+        self.result = os.path.join(self.folder, "result")
+        self.peers = [peer for peer in PEERS if shutil.which(peer)]
+        self.wrong = []
+        self.models = self.proofs = self.compared = 0
+
+    def own(self):
+        """The answer of sat_cli, whose model or proof is checked."""
+        if os.path.exists(self.proof):
+            os.remove(self.proof)
+        limit = ["--conflicts", str(self.options.conflicts)]
+        return Run([self.options.program] + limit + [self.cnf, self.proof], self.options.limit)
+
+    def check(self, name, formula, run):
+        if run.answer == "sat":
+            self.models += 1
+            wrong = wrong_model(formula, run.out)
+        elif run.answer == "unsat":
+            self.proofs += 1
+            wrong = None if run.out == "s UNSATISFIABLE\n" else "output"
+            wrong = wrong or lrat_check.check(self.cnf, self.proof)
+        elif run.answer == "unknown":
+            wrong = None if run.out == "s UNKNOWN\n" else "output"
+        elif run.answer == "time":
+            wrong = None
+        else:
+            wrong = run.answer
+        if wrong:
+            self.wrong.append(f"{name}: {wrong}")
+
+    def solve(self, name, formula):
+        """All solvers on one formula, in one go."""
+        with open(self.cnf, "w") as file:
+            file.write(make_formulas.text_of(formula))
+        runs = {"sat_cli": self.own()}
+        self.check(name, formula, runs["sat_cli"])
+        for peer in self.peers:
+            runs[peer] = Run(PEERS[peer](self.cnf, self.result), self.options.limit)
+        answers = {solver: run.answer for solver, run in runs.items()}
+        told = {answer for answer in answers.values() if answer in ("sat", "unsat")}
+        if len(told) > 1:
+            self.wrong.append(f"{name}: {answers}")
+        self.compared += answers["sat_cli"] in told and len([a for a in answers.values() if a in told]) > 1
+        return runs
+
+
+def wrong_model(formula, out):
+    """None where the lines give each variable one value, in order, and satisfy the formula."""
+    variables, clauses = formula
+    lines = out.splitlines()
+    if lines[0] != "s SATISFIABLE" or any(not line.startswith("v") or len(line) > 78 for line in lines[1:]):
+        return "form"
+    numbers = [int(word) for line in lines[1:] for word in line.split()[1:]]
+    if [abs(number) for number in numbers] != list(range(1, variables + 1)) + [0]:
+        return "values"
+    true = set(numbers)
+    if not all(any(lit in true for lit in clause) for clause in clauses):
+        return "model"
+    return None
+
+
+def families(quick):
+    """Each family with its sizes, and the seeds of each size."""
+    few, some = [0], range(3 if quick else 5)
+    if quick:
+        return {"random": [(n, some) for n in (20, 40, 60)], "pigeons": [(n, few) for n in (3, 4, 5)],
+                "sums": [(n, few) for n in (4, 6, 8)], "products": [(n, few) for n in (2, 3)],
+                "shifts": [(n, few) for n in (4, 8)]}
+    return {"random": [(n, some) for n in (50, 75, 100, 125, 150)], "pigeons": [(n, few) for n in range(3, 9)],
+            "sums": [(n, few) for n in (4, 8, 12, 16, 24, 32)], "products": [(n, few) for n in range(4, 9)],
+            "shifts": [(n, few) for n in (8, 16, 32)]}
+
+
+def mean(numbers):
+    return math.exp(sum(map(math.log, numbers)) / len(numbers)) if numbers else float("nan")
+
+
+def compare_answers(bench, count):
+    rng = random.Random("answers")
+    tally = {}
+    for number in range(count):
+        size = rng.randint(10, 60)
+        ratio = rng.choice((3.5, 4.0, 4.26, 4.26, 5.0))
+        runs = bench.solve(f"answers {number}", make_formulas.random_formula(size, f"answers {number}", ratio))
+        answer = runs["sat_cli"].answer
+        tally[answer] = tally.get(answer, 0) + 1
+    print(f"{count} random formulas of 10 to 60 variables: {tally}\n")
+
+
+def ratio_of(row, limit):
+    """How many times as long as minisat, and whether that is only a lower bound: out of time."""
+    own, minisat = row["sat_cli"], row["minisat"]
+    if minisat.answer not in ("sat", "unsat"):
+        return None
+    if own.answer in ("sat", "unsat"):
+        return own.seconds / minisat.seconds, False
+    return limit / minisat.seconds, True
+
+
+def shown(each):
+    """The geometric mean of ratios; at least so much, where one is a lower bound."""
+    if not each:
+        return "-"
+    return ("≥ " if any(late for _, late in each) else "") + f"{mean([ratio for ratio, _ in each]):.2f}"
+
+
+def cell(run):
+    return f"{run.seconds:.3f}" if run.answer in ("sat", "unsat") else run.answer
+
+
+def time_families(bench, quick):
+    solvers = ["sat_cli"] + bench.peers
+    print("Seconds of processor time, medians over the seeds; ratio is sat_cli's to minisat's.\n")
+    print("| family | size | answer | " + " | ".join(solvers) + " | ratio |")
+    print("|---" * (len(solvers) + 4) + "|")
+    ratios = {}
+    for family, sizes in families(quick).items():
+        for size, seeds in sizes:
+            rows = [bench.solve(f"{family} {size} {seed}", make_formulas.make(family, size, seed)) for seed in seeds]
+            middle = {s: sorted((row[s] for row in rows), key=lambda run: run.seconds)[len(rows) // 2] for s in solvers}
+            each = [ratio_of(row, bench.options.limit) for row in rows if "minisat" in row]
+            each = [ratio for ratio in each if ratio]
+            ratios.setdefault(family, []).extend(each)
+            answers = "/".join(sorted({row["sat_cli"].answer for row in rows}))
+            ratio = shown(each)
+            print(f"| {family} | {size} | {answers} | " + " | ".join(cell(middle[s]) for s in solvers) + f" | {ratio} |", flush=True)
+    print("\n| family | formulas | of them out of time | ratio to minisat, geometric mean |\n|---|---|---|---|")
+    ratios["all"] = [ratio for each in ratios.values() for ratio in each]
+    for family, each in ratios.items():
+        print(f"| {family} | {len(each)} | {sum(late for _, late in each)} | {shown(each)} |")
+    print()
+
+
+def main():
+    parser = argparse.ArgumentParser()
+    parser.add_argument("program")
+    parser.add_argument("--quick", action="store_true")
+    parser.add_argument("--answers", type=int)
+    parser.add_argument("--conflicts", type=int, default=100000)
+    parser.add_argument("--limit", type=int)
+    options = parser.parse_args()
+    if options.limit is None:
+        options.limit = 10 if options.quick else 60
+    bench = Bench(options)
+    compare_answers(bench, options.answers if options.answers is not None else (50 if options.quick else 2000))
+    time_families(bench, options.quick)
+    print(f"{bench.compared} answers compared with a peer's, {bench.models} models and {bench.proofs} proofs checked, {len(bench.wrong)} wrong.")
+    for wrong in bench.wrong:
+        print(f"- {wrong}")
+    shutil.rmtree(bench.folder)
+    return 1 if bench.wrong else 0
+
+
+if __name__ == "__main__":
+    sys.exit(main())

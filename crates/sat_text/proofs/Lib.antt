@@ -1,0 +1,5 @@
+pub mod Rows
+pub mod Numbers
+pub mod Spelling
+pub mod Saying
+pub mod Cut

@@ -1,0 +1,6 @@
+pub mod Texts
+pub mod Formulas
+pub mod Reading
+pub mod Faults
+pub mod Values
+pub mod LogTexts

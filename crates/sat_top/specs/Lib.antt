@@ -1,0 +1,4 @@
+pub mod Requests
+pub mod Told
+pub mod Lines
+pub mod Outcomes

@@ -1,0 +1,19 @@
+//! The one call that does all that the program does: from the words of a command and the bytes
+//! of a file to what is written and the status.
+#![tactic(auto)]
+
+mod answers;
+mod log_file;
+mod request;
+mod search;
+mod status;
+mod target;
+mod top;
+
+pub use request::{Request, request_of};
+pub use status::Status;
+pub use target::Target;
+pub use top::solve;
+
+#[cfg(test)]
+mod tests;
