@@ -52,7 +52,9 @@ impl MemFiles {
 
     /// The call of this number, from 0, is to fail.
     pub fn fail_at(&mut self, call: u64) -> Result<(), AllocError>
-        ensures { OnOk result (files_failing self.new ≡ files_failing self.old ++ call ∷ []) }
+        ensures failing { OnOk result (files_failing self.new ≡ files_failing self.old ++ call ∷ []) }
+        ensures err { OnErr result (files_failing self.new ≡ files_failing self.old) }
+        ensures held { (name : List ℕ) → held_files self.new name ≡ held_files self.old name }
     {
         self.script.fail_at(call)
     }
@@ -104,7 +106,7 @@ pub struct MemSource {
 }
 
 impl MemSource {
-    ghost use Rattle.std.specs.Prelude.{◌≡◌, ◌<◌, IfOk, OnOk, ◌++◌, ◌∷◌, []};
+    ghost use Rattle.std.specs.Prelude.{◌≡◌, ◌<◌, IfOk, OnOk, OnErr, ◌++◌, ◌∷◌, []};
     ghost use Rattle.gc0_io.specs.Memory.{held_left, source_failing};
 
     /// A source of these bytes, which gives at most `chunk` of them a call.
@@ -123,7 +125,9 @@ impl MemSource {
 
     /// The call of this number, from 0, is to fail.
     pub fn fail_at(&mut self, call: u64) -> Result<(), AllocError>
-        ensures { OnOk result (source_failing self.new ≡ source_failing self.old ++ call ∷ []) }
+        ensures failing { OnOk result (source_failing self.new ≡ source_failing self.old ++ call ∷ []) }
+        ensures err { OnErr result (source_failing self.new ≡ source_failing self.old) }
+        ensures left { held_left self.new ≡ held_left self.old }
     {
         self.script.fail_at(call)
     }
@@ -157,7 +161,7 @@ pub struct MemSink {
 }
 
 impl MemSink {
-    ghost use Rattle.std.specs.Prelude.{◌≡◌, [], IfOk, OnOk, ◌++◌, ◌∷◌};
+    ghost use Rattle.std.specs.Prelude.{◌≡◌, [], IfOk, OnOk, OnErr, ◌++◌, ◌∷◌};
     ghost use Rattle.gc0_io.specs.Memory.{held_taken, held_room, sink_failing};
 
     /// Room for `capacity` bytes, taken at once, so that no write takes memory.
@@ -182,7 +186,10 @@ impl MemSink {
 
     /// The call of this number, from 0, is to fail.
     pub fn fail_at(&mut self, call: u64) -> Result<(), AllocError>
-        ensures { OnOk result (sink_failing self.new ≡ sink_failing self.old ++ call ∷ []) }
+        ensures failing { OnOk result (sink_failing self.new ≡ sink_failing self.old ++ call ∷ []) }
+        ensures err { OnErr result (sink_failing self.new ≡ sink_failing self.old) }
+        ensures taken { held_taken self.new ≡ held_taken self.old }
+        ensures room { held_room self.new ≡ held_room self.old }
     {
         self.script.fail_at(call)
     }

@@ -1,4 +1,4 @@
-ghost use Rattle.std.specs.Prelude.{◌≡◌, ◌≤◌, [], ◌∷◌, ◌++◌, OnOk, OnErr, IsTrue, IfOk};
+ghost use Rattle.std.specs.Prelude.{◌≡◌, ◌≤◌, ◌+◌, ◌-◌, ◌^◌, min, false, [], ◌∷◌, ◌++◌, OnOk, OnErr, IsTrue, IfOk};
 ghost use Rattle.gc0_io.specs.Causes.{Rose};
 ghost use Rattle.gc0_io.specs.Scripts.{is_planned};
 
@@ -43,8 +43,11 @@ impl Script {
     /// Counts a call, and says whether it is to fail.
     pub fn fails(&mut self) -> bool
         ensures planned { result ≡ is_planned self.old }
+        ensures counted { self.new.calls ≡ min (self.old.calls + 1) (2 ^ 64 - 1) }
+        ensures failing { self.new.failing.items ≡ self.old.failing.items }
         ensures later { self.old.faults ≤ self.new.faults }
         ensures rose { IsTrue result → Rose self.old.faults self.new.faults }
+        ensures kept { result ≡ false → self.new.faults ≡ self.old.faults }
     {
         let call = self.calls;
         self.calls = call.saturating_add(1);
@@ -59,6 +62,8 @@ impl Script {
     pub fn fault(&mut self)
         ensures later { self.old.faults ≤ self.new.faults }
         ensures rose { Rose self.old.faults self.new.faults }
+        ensures calls { self.new.calls ≡ self.old.calls }
+        ensures failing { self.new.failing.items ≡ self.old.failing.items }
     {
         self.faults = self.faults.saturating_add(1);
     }
