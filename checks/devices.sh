@@ -47,21 +47,38 @@ fi
 status=$(cat status.txt)
 check "a closed pipe as the output" 10 "write fault"
 
-# The longest sum that fits: a long sum counts as nesting that isn't built, at its 1,001st
-# operator, and must not end the program in another way.
-{ printf 'int main() { return 1'; i=0; head -c 262100 /dev/zero | tr '\0' 'x' | sed 's/xx/+1/g'; printf '; }'; } > sum.c0
+# The longest sum that fits: each operator is a node of the tree, and a path has at most 100 with
+# the statement's own, so that the 100th operator goes too deep.
+{ printf 'int main() { return 1'; head -c 262100 /dev/zero | tr '\0' 'x' | sed 's/xx/+1/g'; printf '; }'; } > sum.c0
 "$run" run sum.c0 >out 2>err; status=$?
-check "the longest sum that fits" 14 "not built 1:2022"
+check "the longest sum that fits" 7 "limit nesting"
 
-{ printf 'int main() { return 1'; head -c 2000 /dev/zero | tr '\0' 'x' | sed 's/xx/+1/g'; printf '; }\n'; } > thousand.c0
-"$run" run thousand.c0 >out 2>err; status=$?
-check "a sum of 1,001 terms" 0 "result 1001"
+sum() { printf 'int main() { return 1'; i=1; while [ "$i" -lt "$1" ]; do printf '+1'; i=$((i + 1)); done; printf '; }\n'; }
+sum 100 > hundred.c0
+"$run" run hundred.c0 >out 2>err; status=$?
+check "a sum of 100 terms" 0 "result 100"
+sum 101 > more.c0
+"$run" run more.c0 >out 2>err; status=$?
+check "a sum of 101 terms" 7 "limit nesting"
 
-for token in '(' '-' '1' '+' 'x' '{' '}' ';' '=' '*' '@' '"'; do
-    head -c 262144 /dev/zero | tr '\0' "$token" > same.c0
+# Texts of one token that fill the limit.
+same() {
+    head -c 262144 /dev/zero | tr '\0' "$1" > same.c0
     "$run" run same.c0 >out 2>err; status=$?
-    check "a text of one token $token" 14 "not built 1:1"
+    check "a text of one token $1" 4 "$2"
+}
+for token in '(' '-' '+' '{' '}' ';' '=' '*' '"' 'x' '!' '<' '&' ':' '?' ','; do
+    same "$token" "refused 1:1 syntax"
 done
+same '1' "refused 1:1 bad number"
+same '@' "refused 1:1 bad byte"
+same '/' "refused 1:1 no main"
+{ printf 'int main() { return '; head -c 262000 /dev/zero | tr '\0' '('; } > open.c0
+"$run" run open.c0 >out 2>err; status=$?
+check "as many parentheses as fit" 7 "limit nesting"
+{ printf 'int main() { '; head -c 262000 /dev/zero | tr '\0' '{'; } > blocks.c0
+"$run" run blocks.c0 >out 2>err; status=$?
+check "as many blocks as fit" 7 "limit nesting"
 
 printf 'int f(int n) { if (n < 1) { return 0; } int r = f(n - 1); return r + 1; }\nint main() { int d = f(1000000); return d; }\n' > deep.c0
 "$run" run --steps 10000000 deep.c0 >out 2>err; status=$?

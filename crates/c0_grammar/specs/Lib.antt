@@ -1,4 +1,5 @@
 pub mod Tokens
+pub mod Seen
 pub mod Lists
 pub mod Written
 pub mod Allowed

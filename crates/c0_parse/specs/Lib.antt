@@ -1,7 +1,4 @@
-pub mod Tree
-pub mod Views
-pub mod Bytes
-pub mod Tokens
-pub mod Grammar
-pub mod Reads
-pub mod Plan
+pub mod Seen
+pub mod Read
+pub mod TreeFaults
+pub mod Causes

@@ -1,16 +1,36 @@
+//! Expressions, of the code and of formulas.
 #![tactic(auto, using(crate::proofs::Failing::fails_as))]
 
-ghost use Rattle.std.specs.Prelude.{◌≡◌, ◌≤◌, ◌<◌, ◌+◌, ◌-◌, [], ◌∷◌, ◌++◌, ℕ, List, length, IfOk, Option};
-ghost use Rattle.c0_parse.specs.Tree.{ExprTree, CallTree, RightTree, FormulaTree, NoteTree, number, truth, local, outcome, unary, from};
-ghost use Rattle.c0_parse.specs.Grammar.{spot, joined, rank};
-ghost use Rattle.c0_parse.specs.Views.{expr_view, exprs_view, call_view, right_view, formula_view, note_view};
-ghost use Rattle.c0_parse.specs.Plan.{Plan, await, operand, ops, climb, expr, chain, arguments, right_side, whole_call, formula, noted, run, of_rank, operator_at, operator_of, Answers};
+ghost use Rattle.std.specs.Prelude.{◌≡◌, ◌≤◌, ◌<◌, ◌+◌, ◌&&◌, ℕ, true, not, max, length, IfOk};
+ghost use Rattle.c0_lex.specs.declared.token.Symbol.TheVariants.{OpenParen};
+ghost use Rattle.gc0_base.specs.declared.place.Place.{Place};
+ghost use Rattle.parsed_tree.specs.declared.expressions.Named.{Named};
+ghost use Rattle.parsed_tree.specs.Tree.{ExprTree, ExprTrees, outcome, no_exprs, expr_and};
+ghost use Rattle.parsed_tree.specs.Views.{expr_view, exprs_view};
+ghost use Rattle.c0_grammar.specs.Tokens.{sign_mark};
+ghost use Rattle.c0_grammar.specs.Written.{spot};
+ghost use Rattle.c0_grammar.specs.Allowed.{is_code, is_conjunct, has_calls};
+ghost use Rattle.c0_grammar.specs.Plan.{Plan, text, node, step_if, unary_step, word_step, sign_step, operand, arrows, acc_arrows, ops, quest, more_args, climb, expr, primary, arguments, called_plan, behind_name, alloc_plan, path_start, acc_plan, round_plan};
+ghost use Rattle.c0_parse.specs.Seen.{reading, stepping, starts, mode_view, Parsed};
+ghost use Rattle.c0_parse.specs.Read.{IsFound, choices_plan, onto_args, text_called};
 
-use crate::cursor::{NOWHERE, begins, begins_call, expect, identifier, is};
-use crate::token::{Fixed, Kind, Token};
-use crate::tree::{Call, Expr, Formula, Note, Operator, ReadFault, Right, Spot, UnaryOperator};
+use crate::built::{
+    Found, MOST_NODES, allocation, apply, call, call_text, choose, condition_fits, deeper, fits,
+    join, local, local_path, null, number, outcome, outcome_path, permission, point, starting_at,
+    step_to, truth,
+};
+use crate::cursor::{
+    NOWHERE, any_name, begins, begins_string, begins_word, expect, expect_word, free_name,
+    remaining, string,
+};
+use crate::fault::Stop;
+use crate::names::Names;
+use crate::operators::{Mode, is_symbol, operator_of_rank};
+use crate::types::type_name;
+use c0_lex::{Keyword, Symbol, Token, TokenKind};
 use gc0_base::Place;
-use sqlite_items::{Boxed, Items};
+use parsed_tree::{Expr, Named, UnaryOperator};
+use sqlite_items::Items;
 use std::alloc::{AllocError, Global};
 
 // A part's value, or its fault as that of the whole.
@@ -23,340 +43,619 @@ macro_rules! part {
     };
 }
 
-// How many operators between two expressions one expression may have, so that no tree is too
-// deep for the stack.
-const MOST_OPERATORS: u32 = 1000;
-
 // How many ranks the operators between two expressions have.
-const RANKS: u32 = 4;
+const RANKS: u32 = 10;
 
-/// An expression, in which `!`, `-` and `(` nest at most `room` deep, and `\result` stands only
-/// if `outcome` is true; and the tokens behind it.
-pub fn expression(
+/// A whole expression, above which `up` nodes stand, and the tokens behind it.
+#[cycle(expression)]
+pub fn expression<'t, 'a>(
     alloc: Global,
-    outcome: bool,
-    room: u32,
-    tokens: &[Token],
-) -> Result<(Expr, &[Token]), ReadFault>
-    ensures reads { (next : ExprTree → Plan) → Answers (λ x. run (next (expr_view x.0)) x.1.now) (run (expr outcome room next) tokens.now) result }
+    names: &Names<'a>,
+    mode: Mode,
+    up: u32,
+    tokens: &'t [Token<'a>],
+) -> Result<(Found, &'t [Token<'a>]), Stop>
+    requires { up ≤ 100 }
+    ensures reads { (next : ExprTree → ℕ → Plan) → Parsed (λ x. reading (next (expr_view x.0.expr) x.0.depth) x.1.now) (reading (expr names.now (mode_view mode) up next) tokens.now) result }
+    ensures found { IfOk result (λ x. IsFound up x.0) }
     ensures shorter { IfOk result (λ x. length x.1.now < length tokens.now) }
 {
-    let (e, _left, rest) = part!(level(alloc, RANKS, outcome, room, MOST_OPERATORS, tokens));
-    Ok((e, rest))
+    let (test, rest) = part!(level(alloc, RANKS, names, mode, up, tokens));
+    choice_behind(alloc, names, mode, up, test, rest)
 }
 
-// An expression with operators of the ranks below this one, of which it may have `left`; and
-// how many are left then.
+// A `?` behind a condition, if one follows, and what it chooses between.
 #[cycle(expression)]
-fn level(
+fn choice_behind<'t, 'a>(
     alloc: Global,
-    rank: u32,
-    outcome: bool,
-    room: u32,
-    left: u32,
-    tokens: &[Token],
-) -> Result<(Expr, u32, &[Token]), ReadFault>
-    requires { rank ≤ 4 }
-    ensures reads { (next : ExprTree → ℕ → Plan) → Answers (λ x. run (next (expr_view x.0) x.1) x.2.now) (run (climb rank outcome room left next) tokens.now) result }
-    ensures shorter { IfOk result (λ x. length x.2.now < length tokens.now) }
-{
-    if rank == 0 {
-        return primary(alloc, outcome, room, left, tokens);
-    }
-    let (mut e, mut left, mut rest) = part!(level(alloc, rank - 1, outcome, room, left, tokens));
-    while let Some((token, behind)) = rest.split_first() {
-        let Some(operator) = operator_of_rank(rank - 1, &token.kind) else {
-            break;
-        };
-        if left == 0 {
-            return Err(ReadFault::NotBuilt(token.place));
-        }
-        let (right, spare, after) = part!(level(alloc, rank - 1, outcome, room, left - 1, behind));
-        e = join(alloc, token.place, operator, e, right)?;
-        left = spare;
-        rest = after;
-    }
-    Ok((e, left, rest))
-}
-
-// A number, a truth, a name, `\result`, or what begins with `!`, `-` or `(`.
-#[cycle(expression)]
-fn primary(
-    alloc: Global,
-    outcome: bool,
-    room: u32,
-    left: u32,
-    tokens: &[Token],
-) -> Result<(Expr, u32, &[Token]), ReadFault>
-    ensures reads { (next : ExprTree → ℕ → Plan) → Answers (λ x. run (next (expr_view x.0) x.1) x.2.now) (run (operand outcome room left next) tokens.now) result }
-    ensures shorter { IfOk result (λ x. length x.2.now < length tokens.now) }
-{
-    let Some((token, rest)) = tokens.split_first() else {
-        return Err(ReadFault::NotBuilt(NOWHERE));
-    };
-    let spot = spot_at(token.place);
-    match &token.kind {
-        Kind::Number(word) => Ok((Expr::Number(spot, *word), left, rest)),
-        Kind::Name(name) => {
-            let name = Items::from_slice(alloc, name.as_slice())?;
-            Ok((Expr::Local(spot, name), left, rest))
-        }
-        Kind::Known(Fixed::True) => Ok((Expr::Truth(spot, true), left, rest)),
-        Kind::Known(Fixed::False) => Ok((Expr::Truth(spot, false), left, rest)),
-        Kind::Known(Fixed::Outcome) if outcome => Ok((Expr::Outcome(spot), left, rest)),
-        Kind::Known(Fixed::Not) if room > 0 => {
-            let (e, left, rest) = part!(primary(alloc, outcome, room - 1, left, rest));
-            Ok((apply(alloc, spot, UnaryOperator::Not, e)?, left, rest))
-        }
-        Kind::Known(Fixed::Minus) if room > 0 => {
-            let (e, left, rest) = part!(primary(alloc, outcome, room - 1, left, rest));
-            Ok((apply(alloc, spot, UnaryOperator::Negate, e)?, left, rest))
-        }
-        Kind::Known(Fixed::Open) if room > 0 => {
-            let (e, left, rest) = part!(level(alloc, RANKS, outcome, room - 1, left, rest));
-            let (_, rest) = part!(expect(rest, Fixed::Close));
-            Ok((starting_at(token.place, e), left, rest))
-        }
-        _ => Err(ReadFault::NotBuilt(token.place)),
-    }
-}
-
-fn spot_at(place: Place) -> Spot
-    ensures { result ≡ spot place }
-{
-    Spot {
-        place,
-        first: place,
-    }
-}
-
-fn apply(alloc: Global, spot: Spot, operator: UnaryOperator, e: Expr) -> Result<Expr, AllocError>
-    ensures { IfOk result (λ x. expr_view x ≡ unary spot operator (expr_view e)) }
-{
-    Ok(Expr::Unary(spot, operator, Boxed::new(alloc, e)?))
-}
-
-fn join(
-    alloc: Global,
-    place: Place,
-    operator: Operator,
-    a: Expr,
-    b: Expr,
-) -> Result<Expr, AllocError>
-    ensures { IfOk result (λ x. expr_view x ≡ joined place operator (expr_view a) (expr_view b)) }
-{
-    let first = a.spot().first;
-    Ok(Expr::Binary(
-        Spot { place, first },
-        operator,
-        Boxed::new(alloc, a)?,
-        Boxed::new(alloc, b)?,
-    ))
-}
-
-// The expression with its first token at a parenthesis.
-fn starting_at(first: Place, e: Expr) -> Expr
-    ensures { expr_view result ≡ from first (expr_view e) }
-{
-    match e {
-        Expr::Number(spot, word) => Expr::Number(begun(first, spot), word),
-        Expr::Truth(spot, truth) => Expr::Truth(begun(first, spot), truth),
-        Expr::Local(spot, name) => Expr::Local(begun(first, spot), name),
-        Expr::Outcome(spot) => Expr::Outcome(begun(first, spot)),
-        Expr::Unary(spot, operator, e) => Expr::Unary(begun(first, spot), operator, e),
-        Expr::Binary(spot, operator, a, b) => Expr::Binary(begun(first, spot), operator, a, b),
-    }
-}
-
-fn begun(first: Place, spot: Spot) -> Spot
-    ensures { result ≡ record spot { first = first } }
-{
-    Spot {
-        place: spot.place,
-        first,
-    }
-}
-
-// The operator, if it is of this rank. The rank 0 binds most.
-fn operator_of_rank(rank: u32, kind: &Kind) -> Option<Operator>
-    ensures { result ≡ of_rank rank (operator_at kind.now) }
-{
-    let operator = match kind {
-        Kind::Known(mark) => operator_of(*mark)?,
-        _ => return None,
-    };
-    if rank_of(operator) == rank {
-        Some(operator)
-    } else {
-        None
-    }
-}
-
-fn operator_of(mark: Fixed) -> Option<Operator>
-    ensures { result ≡ operator_of mark }
-{
-    match mark {
-        Fixed::Star => Some(Operator::Mul),
-        Fixed::Plus => Some(Operator::Add),
-        Fixed::Minus => Some(Operator::Sub),
-        Fixed::Less => Some(Operator::Less),
-        Fixed::LessEq => Some(Operator::LessEq),
-        Fixed::Greater => Some(Operator::Greater),
-        Fixed::GreaterEq => Some(Operator::GreaterEq),
-        Fixed::Equal => Some(Operator::Equal),
-        Fixed::NotEqual => Some(Operator::NotEqual),
-        _ => None,
-    }
-}
-
-fn rank_of(operator: Operator) -> u32
-    ensures { result ≡ rank operator }
-{
-    match operator {
-        Operator::Mul => 0,
-        Operator::Add | Operator::Sub => 1,
-        Operator::Less | Operator::LessEq | Operator::Greater | Operator::GreaterEq => 2,
-        Operator::Equal | Operator::NotEqual => 3,
-    }
-}
-
-// The expressions so far, and those that the separator leads to.
-fn more(
-    alloc: Global,
-    separator: Fixed,
-    outcome: bool,
-    room: u32,
-    so_far: Items<Expr>,
-    tokens: &[Token],
-) -> Result<(Items<Expr>, &[Token]), ReadFault>
-    ensures reads { (next : List ExprTree → Plan) → Answers (λ x. run (next (exprs_view x.0)) x.1.now) (run (chain separator outcome room (λ es. next (exprs_view so_far ++ es))) tokens.now) result }
+    names: &Names<'a>,
+    mode: Mode,
+    up: u32,
+    test: Found,
+    tokens: &'t [Token<'a>],
+) -> Result<(Found, &'t [Token<'a>]), Stop>
+    requires { IsFound up test }
+    ensures reads { (next : ExprTree → ℕ → Plan) → Parsed (λ x. reading (next (expr_view x.0.expr) x.0.depth) x.1.now) (reading (quest names.now (mode_view mode) up (expr_view test.expr) test.depth next) tokens.now) result }
+    ensures found { IfOk result (λ x. IsFound up x.0) }
     ensures shorter { IfOk result (λ x. length x.1.now ≤ length tokens.now) }
 {
-    let mut found = so_far;
-    let mut rest = tokens;
-    while let Some((token, behind)) = rest.split_first() {
-        if !is(separator, &token.kind) {
-            return Ok((found, rest));
-        }
-        let (e, after) = part!(expression(alloc, outcome, room, behind));
-        found.push(e)?;
-        rest = after;
+    let Some((token, behind)) = tokens.split_first() else {
+        return Ok((test, tokens));
+    };
+    if !is_symbol(Symbol::Question, token.kind) {
+        return Ok((test, tokens));
     }
-    Ok((found, rest))
+    if !condition_fits(mode, &test) {
+        return Err(Stop::Syntax(token.place));
+    }
+    if up + test.depth >= MOST_NODES {
+        return Err(Stop::TooDeep(token.place));
+    }
+    let (yes, no, rest) = part!(choices(alloc, names, mode, up + 1, behind));
+    Ok((choose(alloc, token.place, test, yes, no)?, rest))
 }
 
-// An expression, and those that the separator leads to.
-fn list_of(
+// The two expressions of a choice, behind its `?`.
+#[cycle(expression)]
+fn choices<'t, 'a>(
     alloc: Global,
-    separator: Fixed,
-    outcome: bool,
-    room: u32,
-    tokens: &[Token],
-) -> Result<(Items<Expr>, &[Token]), ReadFault>
-    ensures reads { (next : List ExprTree → Plan) → Answers (λ x. run (next (exprs_view x.0)) x.1.now) (run (expr outcome room (λ e. chain separator outcome room (λ es. next (e ∷ es)))) tokens.now) result }
+    names: &Names<'a>,
+    mode: Mode,
+    up: u32,
+    tokens: &'t [Token<'a>],
+) -> Result<(Found, Found, &'t [Token<'a>]), Stop>
+    requires { up ≤ 100 }
+    ensures reads { (next : ExprTree → ℕ → ExprTree → ℕ → Plan) → Parsed (λ x. reading (next (expr_view x.0.expr) x.0.depth (expr_view x.1.expr) x.1.depth) x.2.now) (reading (choices_plan names.now (mode_view mode) up next) tokens.now) result }
+    ensures yes { IfOk result (λ x. IsFound up x.0) }
+    ensures no { IfOk result (λ x. IsFound up x.1) }
+    ensures shorter { IfOk result (λ x. length x.2.now < length tokens.now) }
+{
+    let (yes, rest) = part!(expression(alloc, names, mode, up, tokens));
+    let (_, rest) = part!(expect(Symbol::Colon, rest));
+    let (no, rest) = part!(expression(alloc, names, mode, up, rest));
+    Ok((yes, no, rest))
+}
+
+// An expression with operators of the ranks below this one.
+#[cycle(expression)]
+fn level<'t, 'a>(
+    alloc: Global,
+    rank: u32,
+    names: &Names<'a>,
+    mode: Mode,
+    up: u32,
+    tokens: &'t [Token<'a>],
+) -> Result<(Found, &'t [Token<'a>]), Stop>
+    requires rank { rank ≤ 10 }
+    requires up { up ≤ 100 }
+    ensures reads { (next : ExprTree → ℕ → Plan) → Parsed (λ x. reading (next (expr_view x.0.expr) x.0.depth) x.1.now) (reading (climb rank names.now (mode_view mode) up next) tokens.now) result }
+    ensures found { IfOk result (λ x. IsFound up x.0) }
     ensures shorter { IfOk result (λ x. length x.1.now < length tokens.now) }
 {
-    let (e, rest) = part!(expression(alloc, outcome, room, tokens));
-    let found = one(alloc, e)?;
-    more(alloc, separator, outcome, room, found, rest)
+    if rank == 0 {
+        return unary_expression(alloc, names, mode, up, tokens);
+    }
+    let (left, rest) = part!(level(alloc, rank - 1, names, mode, up, tokens));
+    operators_behind(alloc, rank - 1, names, mode, up, left, rest)
+}
+
+// The operators of one rank behind a left side; each makes it deeper, so there are few.
+#[cycle(expression)]
+fn operators_behind<'t, 'a>(
+    alloc: Global,
+    rank: u32,
+    names: &Names<'a>,
+    mode: Mode,
+    up: u32,
+    left: Found,
+    tokens: &'t [Token<'a>],
+) -> Result<(Found, &'t [Token<'a>]), Stop>
+    requires rank { rank < 10 }
+    requires left { IsFound up left }
+    ensures reads { (next : ExprTree → ℕ → Plan) → Parsed (λ x. reading (next (expr_view x.0.expr) x.0.depth) x.1.now) (reading (ops rank names.now (mode_view mode) up (expr_view left.expr) left.depth next) tokens.now) result }
+    ensures found { IfOk result (λ x. IsFound up x.0) }
+    ensures shorter { IfOk result (λ x. length x.1.now ≤ length tokens.now) }
+{
+    let Some((token, behind)) = tokens.split_first() else {
+        return Ok((left, tokens));
+    };
+    let Some(operator) = operator_of_rank(rank, token.kind) else {
+        return Ok((left, tokens));
+    };
+    if !fits(mode, operator, &left) {
+        return Err(Stop::Syntax(token.place));
+    }
+    if up + left.depth >= MOST_NODES {
+        return Err(Stop::TooDeep(token.place));
+    }
+    let (right, after) = part!(level(alloc, rank, names, mode.right_of(operator), up + 1, behind));
+    let joined = join(alloc, token.place, operator, left, right)?;
+    operators_behind(alloc, rank, names, mode, up, joined, after)
+}
+
+// A unary expression.
+#[cycle(expression)]
+fn unary_expression<'t, 'a>(
+    alloc: Global,
+    names: &Names<'a>,
+    mode: Mode,
+    up: u32,
+    tokens: &'t [Token<'a>],
+) -> Result<(Found, &'t [Token<'a>]), Stop>
+    requires { up ≤ 100 }
+    ensures reads { (next : ExprTree → ℕ → Plan) → Parsed (λ x. reading (next (expr_view x.0.expr) x.0.depth) x.1.now) (reading (operand names.now (mode_view mode) up next) tokens.now) result }
+    ensures found { IfOk result (λ x. IsFound up x.0) }
+    ensures shorter { IfOk result (λ x. length x.1.now < length tokens.now) }
+{
+    let Some((token, rest)) = tokens.split_first() else {
+        return Err(Stop::Syntax(NOWHERE));
+    };
+    let place = token.place;
+    match token.kind {
+        TokenKind::Number(word) => primary_behind(alloc, mode, up, number(place, word), rest),
+        TokenKind::Name if !names.contains(token.text) => by_name(
+            alloc, names, mode, up, place, token.text, rest,
+        ),
+        TokenKind::Keyword(keyword) => by_keyword(alloc, names, mode, up, place, keyword, rest),
+        TokenKind::Symbol(symbol) => by_symbol(alloc, names, mode, up, place, symbol, rest),
+        _ => Err(Stop::Syntax(place)),
+    }
+}
+
+// A symbol at this place with which a unary expression begins.
+#[cycle(expression)]
+fn by_symbol<'t, 'a>(
+    alloc: Global,
+    names: &Names<'a>,
+    mode: Mode,
+    up: u32,
+    place: Place,
+    symbol: Symbol,
+    tokens: &'t [Token<'a>],
+) -> Result<(Found, &'t [Token<'a>]), Stop>
+    requires { up ≤ 100 }
+    ensures reads { (next : ExprTree → ℕ → Plan) → Parsed (λ x. reading (next (expr_view x.0.expr) x.0.depth) x.1.now) (stepping (sign_step names.now (mode_view mode) up next symbol place) place tokens.now) result }
+    ensures found { IfOk result (λ x. IsFound up x.0) }
+    ensures shorter { IfOk result (λ x. length x.1.now < length tokens.now) }
+{
+    match symbol {
+        Symbol::Minus => unary_behind(alloc, names, mode, up, place, UnaryOperator::Negate, tokens),
+        Symbol::Tilde => unary_behind(alloc, names, mode, up, place, UnaryOperator::Not, tokens),
+        Symbol::Not => unary_behind(alloc, names, mode, up, place, UnaryOperator::Flip, tokens),
+        Symbol::OpenParen => round_behind(alloc, names, mode, up, place, tokens),
+        _ => Err(Stop::Syntax(place)),
+    }
+}
+
+// What stands behind a unary operator at this place.
+#[cycle(expression)]
+fn unary_behind<'t, 'a>(
+    alloc: Global,
+    names: &Names<'a>,
+    mode: Mode,
+    up: u32,
+    place: Place,
+    operator: UnaryOperator,
+    tokens: &'t [Token<'a>],
+) -> Result<(Found, &'t [Token<'a>]), Stop>
+    requires { up ≤ 100 }
+    ensures reads { (next : ExprTree → ℕ → Plan) → Parsed (λ x. reading (next (expr_view x.0.expr) x.0.depth) x.1.now) (stepping (unary_step names.now (mode_view mode) up next operator place) place tokens.now) result }
+    ensures found { IfOk result (λ x. IsFound up x.0) }
+    ensures shorter { IfOk result (λ x. length x.1.now < length tokens.now) }
+{
+    if up >= MOST_NODES {
+        return Err(Stop::TooDeep(place));
+    }
+    let (e, rest) = part!(unary_expression(alloc, names, mode.inside(), up + 1, tokens));
+    Ok((apply(alloc, place, operator, e)?, rest))
+}
+
+// What stands behind a parenthesis at this place.
+#[cycle(expression)]
+fn round_behind<'t, 'a>(
+    alloc: Global,
+    names: &Names<'a>,
+    mode: Mode,
+    up: u32,
+    place: Place,
+    tokens: &'t [Token<'a>],
+) -> Result<(Found, &'t [Token<'a>]), Stop>
+    requires { up ≤ 100 }
+    ensures reads { (next : ExprTree → ℕ → Plan) → Parsed (λ x. reading (next (expr_view x.0.expr) x.0.depth) x.1.now) (stepping (node (up + 1) (round_plan names.now (mode_view mode) up next place)) place tokens.now) result }
+    ensures found { IfOk result (λ x. IsFound up x.0) }
+    ensures shorter { IfOk result (λ x. length x.1.now < length tokens.now) }
+{
+    if up >= MOST_NODES {
+        return Err(Stop::TooDeep(place));
+    }
+    let (e, rest) = part!(expression(alloc, names, mode, up + 1, tokens));
+    let (_, rest) = part!(expect(Symbol::CloseParen, rest));
+    primary_behind(alloc, mode, up, starting_at(place, e), rest)
+}
+
+// A name at this place, and what it is called with or points to.
+#[cycle(expression)]
+fn by_name<'t, 'a>(
+    alloc: Global,
+    names: &Names<'a>,
+    mode: Mode,
+    up: u32,
+    place: Place,
+    name: &[u8],
+    tokens: &'t [Token<'a>],
+) -> Result<(Found, &'t [Token<'a>]), Stop>
+    requires { up ≤ 100 }
+    ensures reads { (next : ExprTree → ℕ → Plan) → Parsed (λ x. reading (next (expr_view x.0.expr) x.0.depth) x.1.now) (reading (behind_name names.now (mode_view mode) up next place name.now) tokens.now) result }
+    ensures found { IfOk result (λ x. IsFound up x.0) }
+    ensures shorter { IfOk result (λ x. length x.1.now ≤ length tokens.now) }
+{
+    if begins_call(mode, tokens) {
+        return called(alloc, names, mode, up, place, name, tokens);
+    }
+    let name = Items::from_slice(alloc, name)?;
+    arrows_behind(alloc, up, local(place, name), tokens)
+}
+
+// Whether a parenthesis stands first that opens a call or an instance.
+fn begins_call<'t, 'a>(mode: Mode, tokens: &'t [Token<'a>]) -> bool
+    ensures { result ≡ (has_calls (mode_view mode) && starts (sign_mark OpenParen) tokens.now) }
+{
+    mode.has_calls() && begins(Symbol::OpenParen, tokens)
+}
+
+// A call or an instance, of this name.
+#[cycle(expression)]
+fn called<'t, 'a>(
+    alloc: Global,
+    names: &Names<'a>,
+    mode: Mode,
+    up: u32,
+    place: Place,
+    name: &[u8],
+    tokens: &'t [Token<'a>],
+) -> Result<(Found, &'t [Token<'a>]), Stop>
+    requires up { up ≤ 100 }
+    requires begins { (has_calls (mode_view mode) && starts (sign_mark OpenParen) tokens.now) ≡ true }
+    ensures reads { (next : ExprTree → ℕ → Plan) → Parsed (λ x. reading (next (expr_view x.0.expr) x.0.depth) x.1.now) (reading (behind_name names.now (mode_view mode) up next place name.now) tokens.now) result }
+    ensures found { IfOk result (λ x. IsFound up x.0) }
+    ensures shorter { IfOk result (λ x. length x.1.now ≤ length tokens.now) }
+{
+    let Some((token, rest)) = tokens.split_first() else {
+        return Err(Stop::Syntax(NOWHERE));
+    };
+    if up >= MOST_NODES {
+        return Err(Stop::TooDeep(token.place));
+    }
+    let name = Items::from_slice(alloc, name)?;
+    if mode.is_code() {
+        return call_behind(alloc, names, up, place, name, rest);
+    }
+    let (arguments, depth, rest) = part!(arguments_of(alloc, names, Mode::Value, up + 1, rest));
+    Ok((call(place, name, arguments, depth), rest))
+}
+
+// The arguments of a call of the code, behind its parenthesis, or its one string literal.
+#[cycle(expression)]
+fn call_behind<'t, 'a>(
+    alloc: Global,
+    names: &Names<'a>,
+    up: u32,
+    place: Place,
+    name: Items<u8>,
+    tokens: &'t [Token<'a>],
+) -> Result<(Found, &'t [Token<'a>]), Stop>
+    requires { up < 100 }
+    ensures reads { (next : ExprTree → ℕ → Plan) → Parsed (λ x. reading (next (expr_view x.0.expr) x.0.depth) x.1.now) (reading (called_plan names.now up next place name) tokens.now) result }
+    ensures found { IfOk result (λ x. IsFound up x.0) }
+    ensures shorter { IfOk result (λ x. length x.1.now < length tokens.now) }
+{
+    if begins_string(tokens) {
+        return text_behind(alloc, up, place, name, tokens);
+    }
+    let (arguments, depth, rest) = part!(arguments_of(alloc, names, Mode::Code, up + 1, tokens));
+    arrows_behind(alloc, up, call(place, name, arguments, depth), rest)
+}
+
+// The one string literal of a call, behind its parenthesis.
+fn text_behind<'t, 'a>(
+    alloc: Global,
+    up: u32,
+    place: Place,
+    name: Items<u8>,
+    tokens: &'t [Token<'a>],
+) -> Result<(Found, &'t [Token<'a>]), Stop>
+    requires { up < 100 }
+    ensures reads { (next : ExprTree → ℕ → Plan) → Parsed (λ x. reading (next (expr_view x.0.expr) x.0.depth) x.1.now) (reading (text (text_called up next place name)) tokens.now) result }
+    ensures found { IfOk result (λ x. IsFound up x.0) }
+    ensures shorter { IfOk result (λ x. length x.1.now < length tokens.now) }
+{
+    let (text, rest) = part!(string(alloc, tokens));
+    let (_, rest) = part!(expect(Symbol::CloseParen, rest));
+    arrows_behind(alloc, up, call_text(place, name, text), rest)
+}
+
+// The arguments behind a parenthesis, how deep they are, and the closing one.
+#[cycle(expression)]
+pub fn arguments_of<'t, 'a>(
+    alloc: Global,
+    names: &Names<'a>,
+    mode: Mode,
+    up: u32,
+    tokens: &'t [Token<'a>],
+) -> Result<(Items<Expr>, u32, &'t [Token<'a>]), Stop>
+    requires { up ≤ 100 }
+    ensures reads { (next : ExprTrees → ℕ → Plan) → Parsed (λ x. reading (next (exprs_view x.0) x.1) x.2.now) (reading (arguments names.now (mode_view mode) up next) tokens.now) result }
+    ensures room { IfOk result (λ x. up + x.1 ≤ 100) }
+    ensures shorter { IfOk result (λ x. length x.2.now < length tokens.now) }
+{
+    if begins(Symbol::CloseParen, tokens) {
+        let (_, rest) = part!(expect(Symbol::CloseParen, tokens));
+        return Ok((Items::new(alloc), 0, rest));
+    }
+    let (e, rest) = part!(expression(alloc, names, mode, up, tokens));
+    let depth = e.depth;
+    let found = one(alloc, e.expr)?;
+    more_arguments(alloc, names, mode, up, found, depth, rest)
+}
+
+// The arguments so far, with those that commas lead to, and the closing parenthesis.
+#[cycle(expression)]
+fn more_arguments<'t, 'a>(
+    alloc: Global,
+    names: &Names<'a>,
+    mode: Mode,
+    up: u32,
+    so_far: Items<Expr>,
+    depth: u32,
+    tokens: &'t [Token<'a>],
+) -> Result<(Items<Expr>, u32, &'t [Token<'a>]), Stop>
+    requires { up + depth ≤ 100 }
+    ensures reads { (next : ExprTrees → ℕ → Plan) → Parsed (λ x. reading (next (exprs_view x.0) x.1) x.2.now) (reading (more_args names.now (mode_view mode) up (onto_args (exprs_view so_far) depth next)) tokens.now) result }
+    ensures room { IfOk result (λ x. up + x.1 ≤ 100) }
+    ensures shorter { IfOk result (λ x. length x.2.now < length tokens.now) }
+{
+    let mut found = so_far;
+    let mut deepest = depth;
+    let mut rest = tokens;
+    'commas: while begins(Symbol::Comma, rest) {
+        let (_, behind) = part!(expect(Symbol::Comma, rest));
+        let (e, after) = part!(expression(alloc, names, mode, up, behind));
+        deepest = deeper(deepest, e.depth);
+        found.push(e.expr)?;
+        rest = remaining(after);
+    }
+    let (_, rest) = part!(expect(Symbol::CloseParen, rest));
+    Ok((found, deepest, rest))
 }
 
 fn one(alloc: Global, e: Expr) -> Result<Items<Expr>, AllocError>
-    ensures { IfOk result (λ x. exprs_view x ≡ expr_view e ∷ []) }
+    ensures { IfOk result (λ x. exprs_view x ≡ expr_and (expr_view e) no_exprs) }
 {
     let mut found = Items::new(alloc);
     found.push(e)?;
     Ok(found)
 }
 
-// What stands between the parentheses of a call, and the closing one.
-fn arguments_of(
+// A word at this place with which a unary expression begins.
+fn by_keyword<'t, 'a>(
     alloc: Global,
-    room: u32,
-    tokens: &[Token],
-) -> Result<(Items<Expr>, &[Token]), ReadFault>
-    ensures reads { (next : List ExprTree → Plan) → Answers (λ x. run (next (exprs_view x.0)) x.1.now) (run (arguments room next) tokens.now) result }
-    ensures shorter { IfOk result (λ x. length x.1.now < length tokens.now) }
-{
-    if begins(Fixed::Close, tokens) {
-        let (_, rest) = part!(expect(tokens, Fixed::Close));
-        return Ok((Items::new(alloc), rest));
-    }
-    let (found, rest) = part!(list_of(alloc, Fixed::Comma, false, room, tokens));
-    let (_, rest) = part!(expect(rest, Fixed::Close));
-    Ok((found, rest))
-}
-
-/// A call, and the tokens behind it.
-pub fn call(alloc: Global, room: u32, tokens: &[Token]) -> Result<(Call, &[Token]), ReadFault>
-    ensures reads { (next : CallTree → Plan) → Answers (λ x. run (next (call_view x.0)) x.1.now) (run (whole_call room next) tokens.now) result }
-    ensures shorter { IfOk result (λ x. length x.1.now < length tokens.now) }
-{
-    let (name, rest) = part!(identifier(alloc, tokens));
-    let (_, rest) = part!(expect(rest, Fixed::Open));
-    let (arguments, rest) = part!(arguments_of(alloc, room, rest));
-    Ok((Call { name, arguments }, rest))
-}
-
-/// What stands behind `=`, and the tokens behind it.
-pub fn right(alloc: Global, room: u32, tokens: &[Token]) -> Result<(Right, &[Token]), ReadFault>
-    ensures reads { (next : RightTree → Plan) → Answers (λ x. run (next (right_view x.0)) x.1.now) (run (right_side room next) tokens.now) result }
-    ensures shorter { IfOk result (λ x. length x.1.now < length tokens.now) }
-{
-    if begins_call(tokens) {
-        let (call, rest) = part!(call(alloc, room, tokens));
-        return Ok((Right::Call(call), rest));
-    }
-    let (e, rest) = part!(expression(alloc, false, room, tokens));
-    Ok((Right::Value(e), rest))
-}
-
-// A formula, and the tokens behind it.
-fn formula_of(
-    alloc: Global,
-    outcome: bool,
-    room: u32,
-    tokens: &[Token],
-) -> Result<(Formula, &[Token]), ReadFault>
-    ensures reads { (next : FormulaTree → Plan) → Answers (λ x. run (next (formula_view x.0)) x.1.now) (run (formula outcome room next) tokens.now) result }
-    ensures shorter { IfOk result (λ x. length x.1.now < length tokens.now) }
-{
-    if begins(Fixed::Question, tokens) {
-        let (_, rest) = part!(expect(tokens, Fixed::Question));
-        let none = Items::new(alloc);
-        let (conjuncts, rest) = part!(more(alloc, Fixed::And, outcome, room, none, rest));
-        return Ok((
-            Formula {
-                imprecise: true,
-                conjuncts,
-            },
-            rest,
-        ));
-    }
-    let (conjuncts, rest) = part!(list_of(alloc, Fixed::And, outcome, room, tokens));
-    Ok((
-        Formula {
-            imprecise: false,
-            conjuncts,
-        },
-        rest,
-    ))
-}
-
-/// The formula behind an annotation's word, which stands at `place`, to the end of the line;
-/// and the tokens behind it.
-pub fn note(
-    alloc: Global,
-    outcome: bool,
-    room: u32,
+    names: &Names<'a>,
+    mode: Mode,
+    up: u32,
     place: Place,
-    tokens: &[Token],
-) -> Result<(Note, &[Token]), ReadFault>
-    ensures reads { (next : NoteTree → Plan) → Answers (λ x. run (next (note_view x.0)) x.1.now) (run (noted outcome room place next) tokens.now) result }
+    keyword: Keyword,
+    tokens: &'t [Token<'a>],
+) -> Result<(Found, &'t [Token<'a>]), Stop>
+    requires { up ≤ 100 }
+    ensures reads { (next : ExprTree → ℕ → Plan) → Parsed (λ x. reading (next (expr_view x.0.expr) x.0.depth) x.1.now) (stepping (word_step names.now (mode_view mode) up next keyword place) place tokens.now) result }
+    ensures found { IfOk result (λ x. IsFound up x.0) }
+    ensures shorter { IfOk result (λ x. length x.1.now ≤ length tokens.now) }
+{
+    match keyword {
+        Keyword::True => primary_behind(alloc, mode, up, truth(place, true), tokens),
+        Keyword::False => primary_behind(alloc, mode, up, truth(place, false), tokens),
+        Keyword::Null => primary_behind(alloc, mode, up, null(place), tokens),
+        Keyword::Outcome => outcome_behind(alloc, mode, up, place, tokens),
+        Keyword::Alloc => allocated(alloc, names, mode, up, place, tokens),
+        Keyword::Acc => permitted(alloc, names, mode, up, place, tokens),
+        _ => Err(Stop::Syntax(place)),
+    }
+}
+
+// `\result` at this place, which stands in formulas alone, and what it points to.
+fn outcome_behind<'t, 'a>(
+    alloc: Global,
+    mode: Mode,
+    up: u32,
+    place: Place,
+    tokens: &'t [Token<'a>],
+) -> Result<(Found, &'t [Token<'a>]), Stop>
+    requires { up ≤ 100 }
+    ensures reads { (next : ExprTree → ℕ → Plan) → Parsed (λ x. reading (next (expr_view x.0.expr) x.0.depth) x.1.now) (stepping (step_if (not (is_code (mode_view mode))) (node up (arrows up (outcome (spot place)) 0 next))) place tokens.now) result }
+    ensures found { IfOk result (λ x. IsFound up x.0) }
+    ensures shorter { IfOk result (λ x. length x.1.now ≤ length tokens.now) }
+{
+    if mode.is_code() {
+        return Err(Stop::Syntax(place));
+    }
+    arrows_behind(alloc, up, outcome(place), tokens)
+}
+
+// The word `alloc` at this place, which stands in the code alone.
+fn allocated<'t, 'a>(
+    alloc: Global,
+    names: &Names<'a>,
+    mode: Mode,
+    up: u32,
+    place: Place,
+    tokens: &'t [Token<'a>],
+) -> Result<(Found, &'t [Token<'a>]), Stop>
+    requires { up ≤ 100 }
+    ensures reads { (next : ExprTree → ℕ → Plan) → Parsed (λ x. reading (next (expr_view x.0.expr) x.0.depth) x.1.now) (stepping (step_if (is_code (mode_view mode)) (node up (alloc_plan names.now up next place))) place tokens.now) result }
+    ensures found { IfOk result (λ x. IsFound up x.0) }
     ensures shorter { IfOk result (λ x. length x.1.now < length tokens.now) }
 {
-    let (formula, rest) = part!(formula_of(alloc, outcome, room, tokens));
-    let (_, rest) = part!(expect(rest, Fixed::Semicolon));
-    let (_, rest) = part!(expect(rest, Fixed::LineEnd));
-    Ok((Note { place, formula }, rest))
+    if !mode.is_code() {
+        return Err(Stop::Syntax(place));
+    }
+    alloc_behind(alloc, names, up, place, tokens)
+}
+
+// The word `acc` at this place, which stands as a conjunct alone.
+fn permitted<'t, 'a>(
+    alloc: Global,
+    names: &Names<'a>,
+    mode: Mode,
+    up: u32,
+    place: Place,
+    tokens: &'t [Token<'a>],
+) -> Result<(Found, &'t [Token<'a>]), Stop>
+    requires { up ≤ 100 }
+    ensures reads { (next : ExprTree → ℕ → Plan) → Parsed (λ x. reading (next (expr_view x.0.expr) x.0.depth) x.1.now) (stepping (step_if (is_conjunct (mode_view mode)) (node (up + 2) (acc_plan names.now up next place))) place tokens.now) result }
+    ensures found { IfOk result (λ x. IsFound up x.0) }
+    ensures shorter { IfOk result (λ x. length x.1.now < length tokens.now) }
+{
+    if !mode.is_conjunct() {
+        return Err(Stop::Syntax(place));
+    }
+    acc_behind(alloc, names, up, place, tokens)
+}
+
+// The type behind the word `alloc` at this place.
+fn alloc_behind<'t, 'a>(
+    alloc: Global,
+    names: &Names<'a>,
+    up: u32,
+    place: Place,
+    tokens: &'t [Token<'a>],
+) -> Result<(Found, &'t [Token<'a>]), Stop>
+    requires { up ≤ 100 }
+    ensures reads { (next : ExprTree → ℕ → Plan) → Parsed (λ x. reading (next (expr_view x.0.expr) x.0.depth) x.1.now) (reading (alloc_plan names.now up next place) tokens.now) result }
+    ensures found { IfOk result (λ x. IsFound up x.0) }
+    ensures shorter { IfOk result (λ x. length x.1.now < length tokens.now) }
+{
+    let (_, rest) = part!(expect(Symbol::OpenParen, tokens));
+    let (typed, rest) = part!(type_name(alloc, names, rest));
+    let (_, rest) = part!(expect(Symbol::CloseParen, rest));
+    arrows_behind(alloc, up, allocation(place, typed), rest)
+}
+
+// The path and the field behind the word `acc` at this place.
+fn acc_behind<'t, 'a>(
+    alloc: Global,
+    names: &Names<'a>,
+    up: u32,
+    place: Place,
+    tokens: &'t [Token<'a>],
+) -> Result<(Found, &'t [Token<'a>]), Stop>
+    requires { up ≤ 100 }
+    ensures reads { (next : ExprTree → ℕ → Plan) → Parsed (λ x. reading (next (expr_view x.0.expr) x.0.depth) x.1.now) (stepping (node (up + 2) (acc_plan names.now up next place)) place tokens.now) result }
+    ensures found { IfOk result (λ x. IsFound up x.0) }
+    ensures shorter { IfOk result (λ x. length x.1.now < length tokens.now) }
+{
+    if up + 2 > MOST_NODES {
+        return Err(Stop::TooDeep(place));
+    }
+    let (_, rest) = part!(expect(Symbol::OpenParen, tokens));
+    let (path, rest) = part!(path_start_of(alloc, names, rest));
+    let (at, rest) = part!(expect(Symbol::Arrow, rest));
+    let (field, rest) = part!(any_name(alloc, rest));
+    let (path, depth, at, field, rest) = part!(acc_end(alloc, up, path, 0, at, field, rest));
+    Ok((permission(alloc, place, path, at, field, depth)?, rest))
+}
+
+// A local or `\result`, with which a path begins.
+fn path_start_of<'t, 'a>(
+    alloc: Global,
+    names: &Names<'a>,
+    tokens: &'t [Token<'a>],
+) -> Result<(Expr, &'t [Token<'a>]), Stop>
+    ensures reads { (next : ExprTree → Plan) → Parsed (λ x. reading (next (expr_view x.0)) x.1.now) (reading (path_start names.now next) tokens.now) result }
+    ensures shorter { IfOk result (λ x. length x.1.now < length tokens.now) }
+{
+    if begins_word(Keyword::Outcome, tokens) {
+        let (place, rest) = part!(expect_word(Keyword::Outcome, tokens));
+        return Ok((outcome_path(place), rest));
+    }
+    let (name, rest) = part!(free_name(alloc, names, tokens));
+    Ok((local_path(name), rest))
+}
+
+// Behind a `->` and a field of an `acc`: each further `->` makes those before it a part of the
+// path, which is deeper then, so there are few. The path in the end, how deep it is, and the last
+// `->` and field.
+fn acc_end<'t, 'a>(
+    alloc: Global,
+    up: u32,
+    path: Expr,
+    depth: u32,
+    at: Place,
+    field: Named,
+    tokens: &'t [Token<'a>],
+) -> Result<(Expr, u32, Place, Named, &'t [Token<'a>]), Stop>
+    requires { up + depth + 2 ≤ 100 }
+    ensures reads { (next : ExprTree → ℕ → Place → Named → Plan) → Parsed (λ x. reading (next (expr_view x.0) x.1 x.2 x.3) x.4.now) (reading (acc_arrows up (expr_view path) depth at field next) tokens.now) result }
+    ensures room { IfOk result (λ x. up + x.1 + 2 ≤ 100) }
+    ensures shorter { IfOk result (λ x. length x.4.now < length tokens.now) }
+{
+    let Some((token, behind)) = tokens.split_first() else {
+        return Err(Stop::Syntax(NOWHERE));
+    };
+    match token.kind {
+        TokenKind::Symbol(Symbol::CloseParen) => Ok((path, depth, at, field, behind)),
+        TokenKind::Symbol(Symbol::Arrow) => {
+            if up + depth + 3 > MOST_NODES {
+                return Err(Stop::TooDeep(token.place));
+            }
+            let (name, after) = part!(any_name(alloc, behind));
+            let longer = point(alloc, at, path, field)?;
+            acc_end(alloc, up, longer, depth + 1, token.place, name, after)
+        }
+        _ => Err(Stop::Syntax(token.place)),
+    }
+}
+
+// What may stand before a `->` in the code alone.
+fn primary_behind<'t, 'a>(
+    alloc: Global,
+    mode: Mode,
+    up: u32,
+    e: Found,
+    tokens: &'t [Token<'a>],
+) -> Result<(Found, &'t [Token<'a>]), Stop>
+    requires { IsFound up e }
+    ensures reads { (next : ExprTree → ℕ → Plan) → Parsed (λ x. reading (next (expr_view x.0.expr) x.0.depth) x.1.now) (reading (primary (mode_view mode) up next (expr_view e.expr) e.depth) tokens.now) result }
+    ensures found { IfOk result (λ x. IsFound up x.0) }
+    ensures shorter { IfOk result (λ x. length x.1.now ≤ length tokens.now) }
+{
+    match mode {
+        Mode::Code => arrows_behind(alloc, up, e, tokens),
+        _ => Ok((e, tokens)),
+    }
+}
+
+// Every `->` that follows; each makes what stands before it deeper, so there are few.
+fn arrows_behind<'t, 'a>(
+    alloc: Global,
+    up: u32,
+    e: Found,
+    tokens: &'t [Token<'a>],
+) -> Result<(Found, &'t [Token<'a>]), Stop>
+    requires { IsFound up e }
+    ensures reads { (next : ExprTree → ℕ → Plan) → Parsed (λ x. reading (next (expr_view x.0.expr) x.0.depth) x.1.now) (reading (arrows up (expr_view e.expr) e.depth next) tokens.now) result }
+    ensures found { IfOk result (λ x. IsFound up x.0) }
+    ensures shorter { IfOk result (λ x. length x.1.now ≤ length tokens.now) }
+{
+    let Some((token, behind)) = tokens.split_first() else {
+        return Ok((e, tokens));
+    };
+    if !is_symbol(Symbol::Arrow, token.kind) {
+        return Ok((e, tokens));
+    }
+    if up + e.depth >= MOST_NODES {
+        return Err(Stop::TooDeep(token.place));
+    }
+    let (field, after) = part!(any_name(alloc, behind));
+    let longer = step_to(alloc, token.place, e, field)?;
+    arrows_behind(alloc, up, longer, after)
 }

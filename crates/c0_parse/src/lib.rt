@@ -1,20 +1,26 @@
-//! Reads the text of a C0 program with functions, loops and contracts into its tree, in which
-//! names are not yet resolved.
+//! Reads the tokens of a text of C0 into its tree, or names its first fault.
+//!
+//! One function for each rule of the grammar, each with one clause: what a part of the reading
+//! leaves to do is what its plan leaves to do. What the plans take is said by `c0_grammar`.
 #![tactic(auto)]
 
+mod built;
 mod cursor;
 mod expressions;
-mod functions;
-mod lex;
+mod fault;
+mod faults;
+mod formulas;
+mod items;
+mod loops;
+mod made;
+mod names;
+mod operators;
 mod reader;
+mod simple;
 mod statements;
 #[cfg(test)]
 mod tests;
-mod token;
-mod tree;
+mod types;
 
-pub use reader::{one_fault, one_tree, places_grow, read};
-pub use tree::{
-    Call, Clause, ClauseKind, Expr, Formula, Function, Named, Note, Operator, Parameter, Program,
-    ReadFault, Right, Shape, Spot, Stmt, Typed, UnaryOperator,
-};
+pub use fault::ParseFault;
+pub use reader::parse;

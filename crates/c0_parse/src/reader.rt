@@ -1,62 +1,111 @@
-ghost use Rattle.std.specs.Prelude.{◌≡◌, ◌+◌, ◌^◌, ◌<◌, ℕ, List, length, IfOk, IfErr};
-ghost use Rattle.gc0_base.specs.declared.place.Place.{Place};
-ghost use Rattle.c0_parse.specs.Tree.{ProgramTree};
-ghost use Rattle.c0_parse.specs.Views.{program_view};
-ghost use Rattle.c0_parse.specs.Tokens.{tokens_of, PlacesGrow};
-ghost use Rattle.c0_parse.specs.Reads.{Reads, FirstFault, HasReadCause, GivesOrMemory, OneTree, OneFault};
+//! A whole program.
+#![tactic(auto, using(crate::proofs::Failing::fails_as))]
 
-use crate::functions::program_of;
-use crate::lex;
-use crate::tree::{Program, ReadFault};
+ghost use Rattle.std.specs.Prelude.{◌≡◌, ◌<◌, ℕ, List, [], length, Ok, IfOk, IfErr};
+ghost use Rattle.parsed_tree.specs.declared.items.Library.{Library};
+ghost use Rattle.parsed_tree.specs.Tree.{ProgramTree};
+ghost use Rattle.parsed_tree.specs.Views.{program_view};
+ghost use Rattle.c0_grammar.specs.Tokens.{use_mark};
+ghost use Rattle.c0_grammar.specs.Plan.{Plan, await, many, use_loop, use_plan, start};
+ghost use Rattle.c0_grammar.specs.Reads.{EndsLast, Reads};
+ghost use Rattle.c0_parse.specs.Seen.{reading, Parsed as Answer};
+ghost use Rattle.c0_grammar.specs.Seen.{all_seen};
+ghost use Rattle.c0_parse.specs.TreeFaults.{tree_faults};
+ghost use Rattle.c0_parse.specs.Causes.{HasCause, AnswersTree, answer_of};
+
+use crate::cursor::{begins_use, expect, expect_use, library, remaining};
+use crate::fault::{ParseFault, Stop};
+use crate::faults::first_fault;
+use crate::items::items_of;
+use c0_grammar::{run_is_complete, run_is_exact};
+use c0_lex::{Symbol, Token};
+use parsed_tree::{Library, Parsed};
+use sqlite_items::Items;
 use std::alloc::Global;
 
-/// Reads the text of a program, given in bytes, into its tree.
-///
-/// ```text
-/// program  = { function }
-/// function = type id "(" [ type id { "," type id } ] ")" { contract }
-///            "{" { stmt } "return" expr ";" "}"
-/// type     = "int" | "bool"
-/// contract = "//@" ( "requires" | "ensures" ) formula ";" lineend
-/// stmt     = type id "=" right ";" | id "=" right ";" | call ";"
-///          | ( "printint" | "printbool" ) "(" expr ")" ";" | "return" expr ";"
-///          | "if" "(" expr ")" block [ "else" block ]
-///          | "while" "(" expr ")" { "//@" "loop_invariant" formula ";" lineend } block
-///          | "//@" "assert" formula ";" lineend
-/// block    = "{" { stmt } "}"
-/// right    = expr | call                 call = id "(" [ expr { "," expr } ] ")"
-/// formula  = "?" [ "&&" parts ] | parts  parts = expr { "&&" expr }
-/// ```
-///
-/// An `expr` has numbers, `true`, `false`, locals, parentheses, `!`, `-`, `*`, `+`, the four
-/// orders, `==` and `!=`, with the precedence of the C0 Reference, and in an `ensures` also
-/// `\result`. The unary `!` and `-`, the `(` of an expression and the blocks together nest at
-/// most 100 deep, and one expression has at most 1,000 operators between two expressions. No
-/// keyword and no library call is an `id`.
-///
-/// A text that is none of the grammar is `NotBuilt`, at the first token that, with those before
-/// it, begins no text of the grammar.
-pub fn read(alloc: Global, text: &[u8]) -> Result<Program, ReadFault>
-    requires { length text.now + 1 < 2 ^ 32 }
-    ensures tree { IfOk result (λ p. Reads text.now (program_view p)) }
-    ensures fault { IfErr result (λ e. HasReadCause text.now e) }
-    ensures only { (p : ProgramTree) → Reads text.now p → GivesOrMemory p result }
-{
-    let tokens = lex::tokens(alloc, text)?;
-    program_of(alloc, &tokens)
+// A part's value, or its fault as that of the whole.
+macro_rules! part {
+    ($part:expr) => {
+        match $part {
+            Ok(value) => value,
+            Err(fault) => return Err(fault),
+        }
+    };
 }
 
-/// A text has at most one tree.
-pub fn one_tree()
-    ensures { OneTree }
-{}
+// A line that names a library.
+fn use_of<'t, 'a>(tokens: &'t [Token<'a>]) -> Result<(Library, &'t [Token<'a>]), Stop>
+    ensures reads { (next : Library → ℕ → Plan) → Answer (λ x. reading (next x.0 0) x.1.now) (reading (await 0 use_mark (λ at. use_plan next)) tokens.now) result }
+    ensures shorter { IfOk result (λ x. length x.1.now < length tokens.now) }
+{
+    let (_, rest) = part!(expect_use(tokens));
+    let (_, rest) = part!(expect(Symbol::Less, rest));
+    let (library, rest) = part!(library(rest));
+    let (_, rest) = part!(expect(Symbol::Greater, rest));
+    Ok((library, rest))
+}
 
-/// A text has at most one first fault, and one that has a tree has none.
-pub fn one_fault()
-    ensures { OneFault }
-{}
+// The libraries that the program names, which stand first.
+fn libraries_of<'t, 'a>(
+    alloc: Global,
+    tokens: &'t [Token<'a>],
+) -> Result<(Items<Library>, &'t [Token<'a>]), Stop>
+    ensures reads { (next : List Library → ℕ → Plan) → Answer (λ x. reading (next x.0 0) x.1.now) (reading (many use_loop next) tokens.now) result }
+{
+    let mut found = Items::new(alloc);
+    let mut rest = tokens;
+    while begins_use(rest) {
+        let (library, after) = part!(use_of(rest));
+        found.push(library)?;
+        rest = remaining(after);
+    }
+    Ok((found, rest))
+}
 
-/// The places of a text's tokens grow in the order of the text.
-pub fn places_grow()
-    ensures { (text : List ℕ) → PlacesGrow (tokens_of text) }
-{}
+// The tree of the tokens, whatever its faults.
+fn tree_of(alloc: Global, tokens: &[Token<'_>]) -> Result<Parsed, Stop>
+    ensures { Answer (λ p. Ok (program_view p)) (reading start tokens.now) result }
+{
+    let (uses, rest) = part!(libraries_of(alloc, tokens));
+    let (items, _, rest) = part!(items_of(alloc, rest));
+    match rest.split_first() {
+        None => Ok(Parsed { uses, items }),
+        Some((token, _)) => Err(Stop::Syntax(token.place)),
+    }
+}
+
+// A tree without a fault, or the first fault.
+fn answer_of(read: Result<Parsed, Stop>) -> Result<Parsed, ParseFault>
+    ensures { result ≡ answer_of read }
+{
+    match read {
+        Ok(parsed) => match first_fault(&parsed) {
+            None => Ok(parsed),
+            Some(fault) => Err(fault),
+        },
+        Err(Stop::Syntax(place)) => Err(ParseFault::Syntax(place)),
+        Err(Stop::TooDeep(place)) => Err(ParseFault::TooDeep(place)),
+        Err(Stop::Memory) => Err(ParseFault::Memory),
+    }
+}
+
+/// Reads the tokens of a text into its tree, or names its first fault: of the text, and else of
+/// the tree.
+///
+/// `tokens` are those that `c0_lex::tokens` gives; the last of them is the end of the text.
+/// Errors: `Syntax` and `TooDeep` where the tokens have no tree, or one with a path of more than
+/// 100 nodes; `ContractOnPrototype` and `DeepRead` where the tree has such faults, and this one
+/// stands first; `Memory` where there was not memory enough. All but the last hold the place of
+/// the fault.
+///
+/// The grammar is a part of that of the C0 Reference, with the annotations of Gradual C0.
+pub fn parse(alloc: Global, tokens: &[Token<'_>]) -> Result<Parsed, ParseFault>
+    ensures tree { EndsLast (all_seen tokens.now) → IfOk result (λ p. Reads 100 (all_seen tokens.now) (program_view p)) }
+    ensures faultless { IfOk result (λ p. tree_faults (program_view p) ≡ []) }
+    ensures cause { EndsLast (all_seen tokens.now) → IfErr result (λ e. HasCause (all_seen tokens.now) e) }
+    ensures complete { (p : ProgramTree) → Reads 100 (all_seen tokens.now) p → AnswersTree p result }
+{
+    run_is_exact();
+    run_is_complete();
+    answer_of(tree_of(alloc, tokens))
+}

@@ -1,18 +1,30 @@
+//! Statements, and lists of them.
 #![tactic(auto, using(crate::proofs::Failing::fails_as))]
 
-ghost use Rattle.std.specs.Prelude.{◌≡◌, true, cond, ◌≤◌, ◌<◌, ◌+◌, ◌*◌, ◌-◌, ◌∷◌, ◌++◌, ℕ, List, length, IfOk};
+ghost use Rattle.std.specs.Prelude.{◌≡◌, ◌≤◌, ◌<◌, ◌+◌, ℕ, List, Option, None, Some, map, length, IfOk};
+ghost use Rattle.std.specs.Option.{option_map};
 ghost use Rattle.gc0_base.specs.declared.place.Place.{Place};
-ghost use Rattle.c0_parse.specs.declared.tree.Typed.{Typed};
-ghost use Rattle.c0_parse.specs.Tree.{ExprTree, RightTree, NoteTree, StmtTree, StmtTrees, declare, assign, call_stmt, print_stmt, return_stmt, if_stmt, while_stmt, assert_stmt};
-ghost use Rattle.c0_parse.specs.Grammar.{is_return};
-ghost use Rattle.c0_parse.specs.Views.{expr_view, call_view, right_view, note_view, notes_view, stmt_view, stmts_view};
-ghost use Rattle.c0_parse.specs.Plan.{Plan, assigned, condition, notes, lines, block, otherwise, declared, printed, returned, asserted, conditional, looped, line_run, starts_name, invariant, run, Answers};
+ghost use Rattle.parsed_tree.specs.Tree.{ExprTree, SimpleTree, InvariantsTree, StmtTree, StmtTrees, no_stmts, stmt_and, simple_stmt, block_stmt, if_stmt, while_stmt, for_stmt, return_stmt, assert_stmt, error_stmt};
+ghost use Rattle.parsed_tree.specs.Views.{expr_view, simple_view, invariants_view, stmt_view, stmts_view};
+ghost use Rattle.c0_grammar.specs.Plan.{Plan, node, condition, simple, body, loop_body, lines, block_plan, if_plan, while_plan, for_plan, return_plan, assert_stmt_plan, error_plan, simple_line};
+ghost use Rattle.c0_parse.specs.Seen.{reading, stepping, starts_operand, line_reading, FailsAs, Parsed};
 
-use crate::cursor::{NOWHERE, begins, begins_call, expect, identifier, is};
-use crate::expressions::{call, expression, note, right};
-use crate::token::{Fixed, Kind, Token};
-use crate::tree::{Call, Expr, Named, Note, ReadFault, Right, Shape, Stmt, Typed};
+use crate::built::{MOST_NODES, deeper};
+use crate::cursor::{NOWHERE, begins, begins_word, expect, expect_word, remaining, string};
+use crate::expressions::expression;
+use crate::fault::Stop;
+use crate::formulas::notes_of;
+use crate::loops::{Inner, all_invariants};
+use crate::made::{
+    assertion, block, error_stop, for_loop, return_none, return_value, simple_statement, when,
+    when_else, while_loop,
+};
+use crate::names::Names;
+use crate::operators::Mode;
+use crate::simple::{begins_declaration, optional_simple, simple_of};
+use c0_lex::{Keyword, Symbol, Token, TokenKind};
 use gc0_base::Place;
+use parsed_tree::{Expr, Stmt};
 use sqlite_items::Items;
 use std::alloc::Global;
 
@@ -26,336 +38,367 @@ macro_rules! part {
     };
 }
 
-/// Statements in which blocks nest at most `room` deep, and the closing brace behind them with
-/// its place. The brace may come behind any statement, or only behind a `return`.
+/// The statements of a block, above which `up` nodes stand, and the place of the closing brace.
 #[cycle(statement)]
-pub fn statements(
+pub fn lines_of<'t, 'a>(
     alloc: Global,
-    room: u32,
-    any: bool,
-    tokens: &[Token],
-) -> Result<(Items<Stmt>, Place, &[Token]), ReadFault>
-    ensures reads { (next : StmtTrees → Place → Plan) → Answers (λ x. run (next (stmts_view x.0) x.1) x.2.now) (run (lines room any any next) tokens.now) result }
-    ensures shorter { IfOk result (λ x. length x.2.now < length tokens.now) }
+    names: &Names<'a>,
+    up: u32,
+    tokens: &'t [Token<'a>],
+) -> Result<(Items<Stmt>, u32, Place, &'t [Token<'a>]), Stop>
+    requires { up ≤ 100 }
+    ensures reads { (next : StmtTrees → ℕ → Place → Plan) → Parsed (λ x. reading (next (stmts_view x.0) x.1 x.2) x.3.now) (reading (lines names.now up next) tokens.now) result }
+    ensures room { IfOk result (λ x. up + x.1 ≤ 100) }
+    ensures shorter { IfOk result (λ x. length x.3.now < length tokens.now) }
 {
     let mut found = Items::new(alloc);
-    let mut closes = any;
+    let mut deepest = 0;
     let mut rest = tokens;
-    while let Some((token, behind)) = rest.split_first() {
-        if is(Fixed::CloseBrace, &token.kind) {
-            if closes {
-                return Ok((found, token.place, behind));
-            }
-            return Err(ReadFault::NotBuilt(token.place));
-        }
-        let (statement, after) = part!(statement(alloc, room, rest));
-        closes = may_close(any, &statement);
-        found.push(statement)?;
-        rest = after;
+    'lines: while !begins(Symbol::CloseBrace, rest) {
+        let (stmt, depth, after) = part!(statement(alloc, names, true, up, rest));
+        deepest = deeper(deepest, depth);
+        found.push(stmt)?;
+        rest = remaining(after);
     }
-    Err(ReadFault::NotBuilt(NOWHERE))
+    let (close, rest) = part!(expect(Symbol::CloseBrace, rest));
+    Ok((found, deepest, close, rest))
 }
 
-// Whether the closing brace may come behind this statement.
-fn may_close(any: bool, statement: &Stmt) -> bool
-    ensures { result ≡ cond any true (is_return (stmt_view statement.now)) }
-{
-    any || is_return(statement)
-}
-
-fn is_return(statement: &Stmt) -> bool
-    ensures { result ≡ is_return (stmt_view statement.now) }
-{
-    matches!(statement, Stmt::Return { .. })
-}
-
-// One statement, and the tokens behind it.
+// A statement, which may be a declaration and an empty annotation where `whole` is true.
 #[cycle(statement)]
-fn statement(alloc: Global, room: u32, tokens: &[Token]) -> Result<(Stmt, &[Token]), ReadFault>
-    ensures reads { (next : StmtTree → Plan) → Answers (λ x. run (next (stmt_view x.0)) x.1.now) (line_run room next tokens.now) result }
-    ensures shorter { IfOk result (λ x. length x.1.now < length tokens.now) }
+fn statement<'t, 'a>(
+    alloc: Global,
+    names: &Names<'a>,
+    whole: bool,
+    up: u32,
+    tokens: &'t [Token<'a>],
+) -> Result<(Stmt, u32, &'t [Token<'a>]), Stop>
+    requires { up ≤ 100 }
+    ensures reads { (next : StmtTree → ℕ → Plan) → Parsed (λ x. reading (next (stmt_view x.0) x.1) x.2.now) (line_reading names.now whole up next tokens.now) result }
+    ensures room { IfOk result (λ x. up + x.1 ≤ 100) }
+    ensures shorter { IfOk result (λ x. length x.2.now < length tokens.now) }
 {
     let Some((token, rest)) = tokens.split_first() else {
-        return Err(ReadFault::NotBuilt(NOWHERE));
+        return Err(Stop::Syntax(NOWHERE));
     };
     let place = token.place;
-    match &token.kind {
-        Kind::Known(Fixed::Int) => {
-            let shape = Shape::Int;
-            declaration(alloc, room, Typed { shape, place }, rest)
-        },
-        Kind::Known(Fixed::Bool) => {
-            let shape = Shape::Bool;
-            declaration(alloc, room, Typed { shape, place }, rest)
-        },
-        Kind::Known(Fixed::PrintInt) => print(alloc, room, place, Shape::Int, rest),
-        Kind::Known(Fixed::PrintBool) => print(alloc, room, place, Shape::Bool, rest),
-        Kind::Known(Fixed::Return) => return_behind(alloc, room, place, rest),
-        Kind::Known(Fixed::Annotation) => assert_behind(alloc, room, rest),
-        Kind::Known(Fixed::If) if room > 0 => if_behind(alloc, room, place, rest),
-        Kind::Known(Fixed::While) if room > 0 => while_behind(alloc, room, place, rest),
-        Kind::Name(_) => by_name(alloc, room, tokens),
-        _ => Err(ReadFault::NotBuilt(place)),
+    match token.kind {
+        TokenKind::Keyword(Keyword::If) => if_behind(alloc, names, up, place, rest),
+        TokenKind::Keyword(Keyword::While) => while_behind(alloc, names, up, place, rest),
+        TokenKind::Keyword(Keyword::For) => for_behind(alloc, names, up, place, rest),
+        TokenKind::Keyword(Keyword::Return) => return_behind(alloc, names, up, place, rest),
+        TokenKind::Keyword(Keyword::Assert) => assert_behind(alloc, names, up, place, rest),
+        TokenKind::Keyword(Keyword::Error) => error_behind(alloc, up, place, rest),
+        TokenKind::Symbol(Symbol::OpenBrace) => block_behind(alloc, names, up, place, rest),
+        TokenKind::AnnotationBegin => notes_of(alloc, names, whole, up, place, rest),
+        _ => simple_behind(alloc, names, whole, up, tokens),
     }
 }
 
-// `=`, what is assigned and `;`, with the place of `=`.
-fn assignment(
+// The body of `if` or of `else`.
+#[cycle(statement)]
+fn body_of<'t, 'a>(
     alloc: Global,
-    room: u32,
-    tokens: &[Token],
-) -> Result<(Place, Right, &[Token]), ReadFault>
-    ensures reads { (next : Place → RightTree → Plan) → Answers (λ x. run (next x.0 (right_view x.1)) x.2.now) (run (assigned room next) tokens.now) result }
+    names: &Names<'a>,
+    up: u32,
+    tokens: &'t [Token<'a>],
+) -> Result<(Stmt, u32, &'t [Token<'a>]), Stop>
+    requires { up ≤ 100 }
+    ensures reads { (next : StmtTree → ℕ → Plan) → Parsed (λ x. reading (next (stmt_view x.0) x.1) x.2.now) (reading (body names.now up next) tokens.now) result }
+    ensures room { IfOk result (λ x. up + x.1 ≤ 100) }
     ensures shorter { IfOk result (λ x. length x.2.now < length tokens.now) }
 {
-    let (equals, rest) = part!(expect(tokens, Fixed::Assign));
-    let (right, rest) = part!(right(alloc, room, rest));
-    let (_, rest) = part!(expect(rest, Fixed::Semicolon));
-    Ok((equals, right, rest))
+    statement(alloc, names, false, up, tokens)
 }
 
-fn declaration(
-    alloc: Global,
-    room: u32,
-    typed: Typed,
-    tokens: &[Token],
-) -> Result<(Stmt, &[Token]), ReadFault>
-    ensures reads { (next : StmtTree → Plan) → Answers (λ x. run (next (stmt_view x.0)) x.1.now) (run (declared room next typed) tokens.now) result }
-    ensures shorter { IfOk result (λ x. length x.1.now < length tokens.now) }
-{
-    let (name, rest) = part!(identifier(alloc, tokens));
-    let (equals, right, rest) = part!(assignment(alloc, room, rest));
-    Ok((declare(typed, name, equals, right), rest))
-}
-
-fn declare(typed: Typed, name: Named, equals: Place, right: Right) -> Stmt
-    ensures { stmt_view result ≡ declare typed name equals (right_view right) }
-{
-    Stmt::Declare {
-        typed,
-        name,
-        equals,
-        right,
-    }
-}
-
-// A statement that begins with a name: a call or an assignment.
-fn by_name(alloc: Global, room: u32, tokens: &[Token]) -> Result<(Stmt, &[Token]), ReadFault>
-    requires { starts_name tokens.now ≡ true }
-    ensures reads { (next : StmtTree → Plan) → Answers (λ x. run (next (stmt_view x.0)) x.1.now) (line_run room next tokens.now) result }
-    ensures shorter { IfOk result (λ x. length x.1.now < length tokens.now) }
-{
-    if begins_call(tokens) {
-        let (call, rest) = part!(call(alloc, room, tokens));
-        let (_, rest) = part!(expect(rest, Fixed::Semicolon));
-        return Ok((call_statement(call), rest));
-    }
-    let (name, rest) = part!(identifier(alloc, tokens));
-    let (equals, right, rest) = part!(assignment(alloc, room, rest));
-    Ok((assign(name, equals, right), rest))
-}
-
-fn call_statement(call: Call) -> Stmt
-    ensures { stmt_view result ≡ call_stmt (call_view call) }
-{
-    Stmt::Call(call)
-}
-
-fn assign(name: Named, equals: Place, right: Right) -> Stmt
-    ensures { stmt_view result ≡ assign name equals (right_view right) }
-{
-    Stmt::Assign {
-        name,
-        equals,
-        right,
-    }
-}
-
-// An expression in parentheses.
-fn condition_of(alloc: Global, room: u32, tokens: &[Token]) -> Result<(Expr, &[Token]), ReadFault>
-    ensures reads { (next : ExprTree → Plan) → Answers (λ x. run (next (expr_view x.0)) x.1.now) (run (condition room next) tokens.now) result }
-    ensures shorter { IfOk result (λ x. length x.1.now < length tokens.now) }
-{
-    let (_, rest) = part!(expect(tokens, Fixed::Open));
-    let (e, rest) = part!(expression(alloc, false, room, rest));
-    let (_, rest) = part!(expect(rest, Fixed::Close));
-    Ok((e, rest))
-}
-
-fn print(
-    alloc: Global,
-    room: u32,
-    place: Place,
-    shape: Shape,
-    tokens: &[Token],
-) -> Result<(Stmt, &[Token]), ReadFault>
-    ensures reads { (next : StmtTree → Plan) → Answers (λ x. run (next (stmt_view x.0)) x.1.now) (run (printed room next place shape) tokens.now) result }
-    ensures shorter { IfOk result (λ x. length x.1.now < length tokens.now) }
-{
-    let (value, rest) = part!(condition_of(alloc, room, tokens));
-    let (_, rest) = part!(expect(rest, Fixed::Semicolon));
-    Ok((print_statement(place, shape, value), rest))
-}
-
-fn print_statement(place: Place, shape: Shape, value: Expr) -> Stmt
-    ensures { stmt_view result ≡ print_stmt place shape (expr_view value) }
-{
-    Stmt::Print {
-        place,
-        shape,
-        value,
-    }
-}
-
-fn return_behind(
-    alloc: Global,
-    room: u32,
-    place: Place,
-    tokens: &[Token],
-) -> Result<(Stmt, &[Token]), ReadFault>
-    ensures reads { (next : StmtTree → Plan) → Answers (λ x. run (next (stmt_view x.0)) x.1.now) (run (returned room next place) tokens.now) result }
-    ensures shorter { IfOk result (λ x. length x.1.now < length tokens.now) }
-{
-    let (value, rest) = part!(expression(alloc, false, room, tokens));
-    let (_, rest) = part!(expect(rest, Fixed::Semicolon));
-    Ok((return_statement(place, value), rest))
-}
-
-fn return_statement(place: Place, value: Expr) -> Stmt
-    ensures { stmt_view result ≡ return_stmt place (expr_view value) }
-{
-    Stmt::Return { place, value }
-}
-
-fn assert_behind(alloc: Global, room: u32, tokens: &[Token]) -> Result<(Stmt, &[Token]), ReadFault>
-    ensures reads { (next : StmtTree → Plan) → Answers (λ x. run (next (stmt_view x.0)) x.1.now) (run (asserted room next) tokens.now) result }
-    ensures shorter { IfOk result (λ x. length x.1.now < length tokens.now) }
-{
-    let (place, rest) = part!(expect(tokens, Fixed::Assert));
-    let (note, rest) = part!(note(alloc, false, room, place, rest));
-    Ok((assert_statement(note), rest))
-}
-
-fn assert_statement(note: Note) -> Stmt
-    ensures { stmt_view result ≡ assert_stmt (note_view note) }
-{
-    Stmt::Assert(note)
-}
-
+// What stands behind a brace at this place.
 #[cycle(statement)]
-fn if_behind(
+fn block_behind<'t, 'a>(
     alloc: Global,
-    room: u32,
+    names: &Names<'a>,
+    up: u32,
     place: Place,
-    tokens: &[Token],
-) -> Result<(Stmt, &[Token]), ReadFault>
-    requires { 0 < room }
-    ensures reads { (next : StmtTree → Plan) → Answers (λ x. run (next (stmt_view x.0)) x.1.now) (run (conditional room (room - 1) next place) tokens.now) result }
-    ensures shorter { IfOk result (λ x. length x.1.now < length tokens.now) }
+    tokens: &'t [Token<'a>],
+) -> Result<(Stmt, u32, &'t [Token<'a>]), Stop>
+    requires { up ≤ 100 }
+    ensures reads { (next : StmtTree → ℕ → Plan) → Parsed (λ x. reading (next (stmt_view x.0) x.1) x.2.now) (stepping (node (up + 1) (block_plan names.now up next place)) place tokens.now) result }
+    ensures room { IfOk result (λ x. up + x.1 ≤ 100) }
+    ensures shorter { IfOk result (λ x. length x.2.now < length tokens.now) }
 {
-    let (test, rest) = part!(condition_of(alloc, room, tokens));
-    let (body, rest) = part!(block_of(alloc, room - 1, rest));
-    let (otherwise, rest) = part!(otherwise_of(alloc, room - 1, rest));
-    Ok((if_statement(place, test, body, otherwise), rest))
-}
-
-fn if_statement(place: Place, test: Expr, body: Items<Stmt>, otherwise: Items<Stmt>) -> Stmt
-    ensures { stmt_view result ≡ if_stmt place (expr_view test) (stmts_view body) (stmts_view otherwise) }
-{
-    Stmt::If {
-        place,
-        test,
-        body,
-        otherwise,
+    if up >= MOST_NODES {
+        return Err(Stop::TooDeep(place));
     }
+    let (body, depth, _, rest) = part!(lines_of(alloc, names, up + 1, tokens));
+    Ok((block(place, body), depth + 1, rest))
 }
 
+// What stands behind the word `if` at this place.
 #[cycle(statement)]
-fn while_behind(
+fn if_behind<'t, 'a>(
     alloc: Global,
-    room: u32,
+    names: &Names<'a>,
+    up: u32,
     place: Place,
-    tokens: &[Token],
-) -> Result<(Stmt, &[Token]), ReadFault>
-    requires { 0 < room }
-    ensures reads { (next : StmtTree → Plan) → Answers (λ x. run (next (stmt_view x.0)) x.1.now) (run (looped room (room - 1) next place) tokens.now) result }
-    ensures shorter { IfOk result (λ x. length x.1.now < length tokens.now) }
+    tokens: &'t [Token<'a>],
+) -> Result<(Stmt, u32, &'t [Token<'a>]), Stop>
+    requires { up ≤ 100 }
+    ensures reads { (next : StmtTree → ℕ → Plan) → Parsed (λ x. reading (next (stmt_view x.0) x.1) x.2.now) (stepping (node (up + 2) (if_plan names.now up next place)) place tokens.now) result }
+    ensures room { IfOk result (λ x. up + x.1 ≤ 100) }
+    ensures shorter { IfOk result (λ x. length x.2.now < length tokens.now) }
 {
-    let (test, rest) = part!(condition_of(alloc, room, tokens));
-    let (invariants, rest) = part!(invariants_of(alloc, room, rest));
-    let (body, rest) = part!(block_of(alloc, room - 1, rest));
-    Ok((while_statement(place, test, invariants, body), rest))
-}
-
-fn while_statement(place: Place, test: Expr, invariants: Items<Note>, body: Items<Stmt>) -> Stmt
-    ensures { stmt_view result ≡ while_stmt place (expr_view test) (notes_view invariants) (stmts_view body) }
-{
-    Stmt::While {
-        place,
-        test,
-        invariants,
-        body,
+    if up + 2 > MOST_NODES {
+        return Err(Stop::TooDeep(place));
     }
-}
-
-// The `loop_invariant`s of a loop.
-fn invariants_of(
-    alloc: Global,
-    room: u32,
-    tokens: &[Token],
-) -> Result<(Items<Note>, &[Token]), ReadFault>
-    ensures reads { (next : List NoteTree → Plan) → Answers (λ x. run (next (notes_view x.0)) x.1.now) (run (notes room next) tokens.now) result }
-    ensures shorter { IfOk result (λ x. length x.1.now ≤ length tokens.now) }
-{
-    let mut found = Items::new(alloc);
-    let mut rest = tokens;
-    while let Some((token, behind)) = rest.split_first() {
-        if !is(Fixed::Annotation, &token.kind) {
-            break;
-        }
-        let (note, after) = part!(invariant_of(alloc, room, behind));
-        found.push(note)?;
-        rest = after;
+    let (test, test_depth, rest) = part!(condition_of(alloc, names, up + 1, tokens));
+    let (yes, yes_depth, rest) = part!(body_of(alloc, names, up + 1, rest));
+    if !begins_word(Keyword::Else, rest) {
+        let depth = deeper(test_depth, yes_depth);
+        return Ok((when(alloc, place, test, yes)?, depth + 1, rest));
     }
-    Ok((found, rest))
+    let (_, rest) = part!(expect_word(Keyword::Else, rest));
+    let (no, no_depth, rest) = part!(body_of(alloc, names, up + 1, rest));
+    let below = deeper(yes_depth, no_depth);
+    let depth = deeper(test_depth, below);
+    Ok((when_else(alloc, place, test, yes, no)?, depth + 1, rest))
 }
 
-// An invariant behind its `//@`.
-fn invariant_of(alloc: Global, room: u32, tokens: &[Token]) -> Result<(Note, &[Token]), ReadFault>
-    ensures reads { (next : NoteTree → Plan) → Answers (λ x. run (next (note_view x.0)) x.1.now) (run (invariant room next) tokens.now) result }
-    ensures shorter { IfOk result (λ x. length x.1.now < length tokens.now) }
-{
-    let (place, rest) = part!(expect(tokens, Fixed::LoopInvariant));
-    note(alloc, false, room, place, rest)
-}
-
+// What stands behind the word `while` at this place.
 #[cycle(statement)]
-fn block_of(
+fn while_behind<'t, 'a>(
     alloc: Global,
-    room: u32,
-    tokens: &[Token],
-) -> Result<(Items<Stmt>, &[Token]), ReadFault>
-    ensures reads { (next : StmtTrees → Plan) → Answers (λ x. run (next (stmts_view x.0)) x.1.now) (run (block room next) tokens.now) result }
-    ensures shorter { IfOk result (λ x. length x.1.now < length tokens.now) }
+    names: &Names<'a>,
+    up: u32,
+    place: Place,
+    tokens: &'t [Token<'a>],
+) -> Result<(Stmt, u32, &'t [Token<'a>]), Stop>
+    requires { up ≤ 100 }
+    ensures reads { (next : StmtTree → ℕ → Plan) → Parsed (λ x. reading (next (stmt_view x.0) x.1) x.2.now) (stepping (node (up + 2) (while_plan names.now up next place)) place tokens.now) result }
+    ensures room { IfOk result (λ x. up + x.1 ≤ 100) }
+    ensures shorter { IfOk result (λ x. length x.2.now < length tokens.now) }
 {
-    let (_, rest) = part!(expect(tokens, Fixed::OpenBrace));
-    let (found, _, rest) = part!(statements(alloc, room, true, rest));
-    Ok((found, rest))
+    if up + 2 > MOST_NODES {
+        return Err(Stop::TooDeep(place));
+    }
+    let (test, test_depth, rest) = part!(condition_of(alloc, names, up + 1, tokens));
+    let (inner, rest) = part!(loop_of(alloc, names, up + 1, rest));
+    let below = deeper(inner.above, inner.below);
+    let depth = deeper(test_depth, below);
+    Ok((while_loop(alloc, place, test, inner)?, depth + 1, rest))
 }
 
-// `else` and a block, or nothing.
+// What stands behind the word `for` at this place.
 #[cycle(statement)]
-fn otherwise_of(
+fn for_behind<'t, 'a>(
     alloc: Global,
-    room: u32,
-    tokens: &[Token],
-) -> Result<(Items<Stmt>, &[Token]), ReadFault>
-    ensures reads { (next : StmtTrees → Plan) → Answers (λ x. run (next (stmts_view x.0)) x.1.now) (run (otherwise room next) tokens.now) result }
-    ensures shorter { IfOk result (λ x. length x.1.now ≤ length tokens.now) }
+    names: &Names<'a>,
+    up: u32,
+    place: Place,
+    tokens: &'t [Token<'a>],
+) -> Result<(Stmt, u32, &'t [Token<'a>]), Stop>
+    requires { up ≤ 100 }
+    ensures reads { (next : StmtTree → ℕ → Plan) → Parsed (λ x. reading (next (stmt_view x.0) x.1) x.2.now) (stepping (node (up + 2) (for_plan names.now up next place)) place tokens.now) result }
+    ensures room { IfOk result (λ x. up + x.1 ≤ 100) }
+    ensures shorter { IfOk result (λ x. length x.2.now < length tokens.now) }
 {
-    if !begins(Fixed::Else, tokens) {
-        return Ok((Items::new(alloc), tokens));
+    if up + 2 > MOST_NODES {
+        return Err(Stop::TooDeep(place));
     }
-    let (_, rest) = part!(expect(tokens, Fixed::Else));
-    block_of(alloc, room, rest)
+    let (_, rest) = part!(expect(Symbol::OpenParen, tokens));
+    let (first, first_depth, rest) = part!(optional_simple(
+        alloc,
+        names,
+        true,
+        up + 1,
+        Symbol::Semicolon,
+        rest
+    ));
+    let (test, rest) = part!(expression(alloc, names, Mode::Code, up + 1, rest));
+    let (_, rest) = part!(expect(Symbol::Semicolon, rest));
+    let (last, last_depth, rest) = part!(optional_simple(
+        alloc,
+        names,
+        false,
+        up + 1,
+        Symbol::CloseParen,
+        rest
+    ));
+    let (inner, rest) = part!(loop_of(alloc, names, up + 1, rest));
+    let below = deeper(inner.above, inner.below);
+    let last_on = deeper(last_depth, below);
+    let test_on = deeper(test.depth, last_on);
+    let depth = deeper(first_depth, test_on);
+    Ok((
+        for_loop(alloc, place, first, test.expr, last, inner)?,
+        depth + 1,
+        rest,
+    ))
+}
+
+// What stands behind the head of a loop: its invariants, and its body.
+#[cycle(statement)]
+fn loop_of<'t, 'a>(
+    alloc: Global,
+    names: &Names<'a>,
+    up: u32,
+    tokens: &'t [Token<'a>],
+) -> Result<(Inner, &'t [Token<'a>]), Stop>
+    requires { up ≤ 100 }
+    ensures reads { (next : List InvariantsTree → ℕ → StmtTree → ℕ → Plan) → Parsed (λ x. reading (next (map invariants_view x.0.invariants) x.0.above (stmt_view x.0.body) x.0.below) x.1.now) (reading (loop_body names.now up next) tokens.now) result }
+    ensures room { IfOk result (λ x. up + x.0.above ≤ 100) }
+    ensures room_below { IfOk result (λ x. up + x.0.below ≤ 100) }
+    ensures shorter { IfOk result (λ x. length x.1.now < length tokens.now) }
+{
+    let (invariants, above, rest) = part!(all_invariants(alloc, names, up, tokens));
+    let (body, below, rest) = part!(statement(alloc, names, false, up, rest));
+    Ok((
+        Inner {
+            invariants,
+            above,
+            body,
+            below,
+        },
+        rest,
+    ))
+}
+
+// A condition in parentheses.
+fn condition_of<'t, 'a>(
+    alloc: Global,
+    names: &Names<'a>,
+    up: u32,
+    tokens: &'t [Token<'a>],
+) -> Result<(Expr, u32, &'t [Token<'a>]), Stop>
+    requires { up ≤ 100 }
+    ensures reads { (next : ExprTree → ℕ → Plan) → Parsed (λ x. reading (next (expr_view x.0) x.1) x.2.now) (reading (condition names.now up next) tokens.now) result }
+    ensures room { IfOk result (λ x. up + x.1 ≤ 100) }
+    ensures shorter { IfOk result (λ x. length x.2.now < length tokens.now) }
+{
+    let (_, rest) = part!(expect(Symbol::OpenParen, tokens));
+    let (e, rest) = part!(expression(alloc, names, Mode::Code, up, rest));
+    let (_, rest) = part!(expect(Symbol::CloseParen, rest));
+    let depth = e.depth;
+    Ok((e.expr, depth, rest))
+}
+
+// What stands behind the word `return` at this place.
+fn return_behind<'t, 'a>(
+    alloc: Global,
+    names: &Names<'a>,
+    up: u32,
+    place: Place,
+    tokens: &'t [Token<'a>],
+) -> Result<(Stmt, u32, &'t [Token<'a>]), Stop>
+    requires { up ≤ 100 }
+    ensures reads { (next : StmtTree → ℕ → Plan) → Parsed (λ x. reading (next (stmt_view x.0) x.1) x.2.now) (stepping (node (up + 1) (return_plan names.now up next place)) place tokens.now) result }
+    ensures room { IfOk result (λ x. up + x.1 ≤ 100) }
+    ensures shorter { IfOk result (λ x. length x.2.now < length tokens.now) }
+{
+    if up >= MOST_NODES {
+        return Err(Stop::TooDeep(place));
+    }
+    if begins(Symbol::Semicolon, tokens) {
+        let (_, rest) = part!(expect(Symbol::Semicolon, tokens));
+        return Ok((return_none(place), 1, rest));
+    }
+    let (e, rest) = part!(expression(alloc, names, Mode::Code, up + 1, tokens));
+    let (_, rest) = part!(expect(Symbol::Semicolon, rest));
+    let depth = e.depth;
+    Ok((return_value(place, e.expr), depth + 1, rest))
+}
+
+// What stands behind the word `assert` of the code at this place.
+fn assert_behind<'t, 'a>(
+    alloc: Global,
+    names: &Names<'a>,
+    up: u32,
+    place: Place,
+    tokens: &'t [Token<'a>],
+) -> Result<(Stmt, u32, &'t [Token<'a>]), Stop>
+    requires { up ≤ 100 }
+    ensures reads { (next : StmtTree → ℕ → Plan) → Parsed (λ x. reading (next (stmt_view x.0) x.1) x.2.now) (stepping (node (up + 1) (assert_stmt_plan names.now up next place)) place tokens.now) result }
+    ensures room { IfOk result (λ x. up + x.1 ≤ 100) }
+    ensures shorter { IfOk result (λ x. length x.2.now < length tokens.now) }
+{
+    if up >= MOST_NODES {
+        return Err(Stop::TooDeep(place));
+    }
+    let (test, depth, rest) = part!(condition_of(alloc, names, up + 1, tokens));
+    let (_, rest) = part!(expect(Symbol::Semicolon, rest));
+    Ok((assertion(place, test), depth + 1, rest))
+}
+
+// What stands behind the word `error` at this place.
+fn error_behind<'t, 'a>(
+    alloc: Global,
+    up: u32,
+    place: Place,
+    tokens: &'t [Token<'a>],
+) -> Result<(Stmt, u32, &'t [Token<'a>]), Stop>
+    requires { up ≤ 100 }
+    ensures reads { (next : StmtTree → ℕ → Plan) → Parsed (λ x. reading (next (stmt_view x.0) x.1) x.2.now) (stepping (node (up + 1) (error_plan next place)) place tokens.now) result }
+    ensures room { IfOk result (λ x. up + x.1 ≤ 100) }
+    ensures shorter { IfOk result (λ x. length x.2.now < length tokens.now) }
+{
+    if up >= MOST_NODES {
+        return Err(Stop::TooDeep(place));
+    }
+    let (_, rest) = part!(expect(Symbol::OpenParen, tokens));
+    let (text, rest) = part!(string(alloc, rest));
+    let (_, rest) = part!(expect(Symbol::CloseParen, rest));
+    let (_, rest) = part!(expect(Symbol::Semicolon, rest));
+    Ok((error_stop(place, text), 1, rest))
+}
+
+// A simple statement and the `;` behind it, which may be a declaration where `declares` is true.
+// Where no node may stand below, the first token of any such statement goes too deep.
+fn simple_behind<'t, 'a>(
+    alloc: Global,
+    names: &Names<'a>,
+    declares: bool,
+    up: u32,
+    tokens: &'t [Token<'a>],
+) -> Result<(Stmt, u32, &'t [Token<'a>]), Stop>
+    requires { up ≤ 100 }
+    ensures reads { (next : StmtTree → ℕ → Plan) → Parsed (λ x. reading (next (stmt_view x.0) x.1) x.2.now) (reading (simple names.now declares (up + 1) (simple_line next)) tokens.now) result }
+    ensures room { IfOk result (λ x. up + x.1 ≤ 100) }
+    ensures shorter { IfOk result (λ x. length x.2.now < length tokens.now) }
+{
+    if up >= MOST_NODES {
+        return Err(first_of_simple(names, declares, tokens));
+    }
+    let (simple, depth, rest) = part!(simple_of(alloc, names, declares, up + 1, tokens));
+    let (_, rest) = part!(expect(Symbol::Semicolon, rest));
+    Ok((simple_statement(simple), depth + 1, rest))
+}
+
+// The fault at the first token where each simple statement is too deep.
+fn first_of_simple<'t, 'a>(names: &Names<'a>, declares: bool, tokens: &'t [Token<'a>]) -> Stop
+    ensures { (next : SimpleTree → ℕ → Plan) → FailsAs (reading (simple names.now declares 101 next) tokens.now) result }
+{
+    let Some((token, behind)) = tokens.split_first() else {
+        return Stop::Syntax(NOWHERE);
+    };
+    if begins_declaration(names, declares, tokens) {
+        return Stop::TooDeep(token.place);
+    }
+    if begins_operand(names, tokens) {
+        return Stop::TooDeep(token.place);
+    }
+    Stop::Syntax(token.place)
+}
+
+// Whether an expression of the code may begin so.
+fn begins_operand<'t, 'a>(names: &Names<'a>, tokens: &'t [Token<'a>]) -> bool
+    ensures { result ≡ starts_operand names.now tokens.now }
+{
+    let Some((token, _)) = tokens.split_first() else {
+        return false;
+    };
+    match token.kind {
+        TokenKind::Number(_) => true,
+        TokenKind::Name => !names.contains(token.text),
+        TokenKind::Keyword(Keyword::True | Keyword::False | Keyword::Null | Keyword::Alloc) => true,
+        TokenKind::Symbol(Symbol::Minus | Symbol::Tilde | Symbol::Not | Symbol::OpenParen) => true,
+        _ => false,
+    }
 }

@@ -1,83 +1,125 @@
-ghost use Rattle.std.specs.Prelude.{◌<◌, length};
-
-use crate::tree::{ClauseKind, ReadFault, Stmt};
-use crate::{one_fault, one_tree, places_grow, read};
-use std::alloc::Global;
+use crate::parse;
+use c0_lex::tokens;
+use gc0_base::Limits;
+use std::alloc::{AllocError, Global};
 use std::test::Fail;
 
-const HALF: &[u8] = b"int half(int x)
-//@requires 0 <= x;
-//@ensures \\result <= x;
-{
-  int h = 0;
-  while (h + h < x)
-  //@loop_invariant h <= x;
-  { h = h + 1; }
-  return h;
-}
-int main() {
-  int a = half(7);
-  int b = half(-1);
-  return a;
-}
-";
-
-// Where a text goes wrong first, as line and column.
-fn fault(alloc: Global, text: &[u8]) -> Option<(u32, u32)>
-    requires { length text.now < 1000 }
-{
-    match read(alloc, text) {
-        Err(ReadFault::NotBuilt(place)) => Some((place.line, place.column)),
-        _ => None,
+// What the parser says of a text: that it is read, or its fault and where it stands.
+fn told(alloc: Global, text: &str) -> Result<String, AllocError> {
+    let source = text.as_bytes();
+    if source.len() > Limits::SOURCE {
+        return String::from_str(alloc, "too long");
+    }
+    match tokens(alloc, source) {
+        Ok(list) => match parse(alloc, list.as_slice()) {
+            Ok(_) => String::from_str(alloc, "read"),
+            Err(fault) => format!(in alloc; "{fault}"),
+        },
+        Err(fault) => format!(in alloc; "{fault}"),
     }
 }
 
-#[test]
-fn reads_functions(rt: HostRuntime) -> Result<(), Fail> {
-    one_tree();
-    one_fault();
-    places_grow();
-    let program = read(rt.alloc(), HALF)?;
-    assert_eq!(rt; program.functions.len(), 2);
-    let half = program.functions.get(0).ok_or("no function")?;
-    assert_eq!(rt; half.name.place.column, 5);
-    assert_eq!(rt; half.close.line, 10);
-    assert_eq!(rt; half.body.len(), 3);
-    let clause = half.contract.get(1).ok_or("no clause")?;
-    assert_eq!(rt; clause.kind, ClauseKind::Ensures);
-    assert_eq!(rt; clause.note.place.line, 3);
-    assert_eq!(rt; clause.note.place.column, 4);
-    assert!(rt; matches!(half.body.get(1), Some(Stmt::While { .. })));
-    assert_eq!(rt; read(rt.alloc(), b"")?.functions.len(), 0);
-    Ok(())
-}
+// Texts, and what is wrong with them first.
+const TEXTS: [(&str, &str); 31] = [
+    ("", "read"),
+    ("#use <conio>\nint main() { return 0; }", "read"),
+    (
+        "typedef int t; struct t { t t; }; t f(t a); int main() { return 0; }",
+        "read",
+    ),
+    (
+        "int main() { if (true) if (false) return 1; else return 2; ((x)) = f(\"a\"); }",
+        "read",
+    ),
+    (
+        "int main() { for (int i = 0; i < 3; i++) /*@ @*/ /*@loop_invariant ?; @*/ { } return 0; }",
+        "read",
+    ),
+    (
+        "struct s { int v; }; /*@predicate q(struct s* p) = acc(p->v) && (p->v == 1 || p->v == 2 || q(p)); @*/",
+        "read",
+    ),
+    ("int f() /*@ @*/; int main() { return 0; }", "read"),
+    ("#use <stdio>", "syntax fault at 1:7"),
+    ("int main() { return 1;", "syntax fault at 1:23"),
+    ("int main() { return (1; }", "syntax fault at 1:23"),
+    (
+        "int main() { if (true) else return 1; }",
+        "syntax fault at 1:24",
+    ),
+    (
+        "int main() { if (true) int x; return 0; }",
+        "syntax fault at 1:24",
+    ),
+    (
+        "int main() { if (true) /*@ @*/ return 0; }",
+        "syntax fault at 1:28",
+    ),
+    ("int main() { f() = 2; }", "syntax fault at 1:18"),
+    ("int main() { x + 1 = 2; }", "syntax fault at 1:20"),
+    ("int main() { x++ + 1; }", "syntax fault at 1:18"),
+    ("int main() { print(\"a\" + 1); }", "syntax fault at 1:24"),
+    (
+        "int main() { while (true) { break; } }",
+        "syntax fault at 1:29",
+    ),
+    (
+        "typedef int t; int main() { return t; }",
+        "syntax fault at 1:36",
+    ),
+    ("int f(int a,) { return a; }", "syntax fault at 1:13"),
+    (
+        "int f(int a) /*@requires a / 2 == 0; @*/ { return a; }",
+        "syntax fault at 1:28",
+    ),
+    (
+        "int f(struct s* p) /*@requires (p)->v == 1; @*/ { return 0; }",
+        "syntax fault at 1:35",
+    ),
+    (
+        "int main() { return ((((((((((((((((((((((((((((((((((((((((((((((((((((((((((((((((((((((((((((((((((((((((((((((((((1)))))))))))))))))))))))))))))))))))))))))))))))))))))))))))))))))))))))))))))))))))))))))))))))))); }",
+        "read",
+    ),
+    (
+        "int main() { return (((((((((((((((((((((((((((((((((((((((((((((((((((((((((((((((((((((((((((((((((((((((((((((((((((1))))))))))))))))))))))))))))))))))))))))))))))))))))))))))))))))))))))))))))))))))))))))))))))))))); }",
+        "too deep at 1:119",
+    ),
+    (
+        "int f(int a) /*@ @*/ /*@requires a == 1; @*/; int main() { return 0; }",
+        "contract on prototype at 1:25",
+    ),
+    (
+        "struct s { int v; }; int f(struct s* p) /*@ensures !(p->v == 1 && true); @*/;",
+        "contract on prototype at 1:44",
+    ),
+    (
+        "struct s { int v; }; int f(struct s* p) /*@requires ? && !(p->v == 1 && true); @*/ { return 0; } int main() { return 0; }",
+        "deep read at 1:61",
+    ),
+    (
+        "struct s { int v; }; /*@predicate q(struct s* p) = (1 < p->v) && !(true || p->v == 1); @*/ int f() /*@requires true; @*/;",
+        "deep read at 1:77",
+    ),
+    (
+        "struct s { int v; }; int f(struct s* p) /*@ensures (p->v == 1 || true) ? true : false; @*/ { }",
+        "deep read at 1:54",
+    ),
+    (
+        "struct s { int v; }; int f(struct s* p) { while (true) /*@loop_invariant p->v == 1 ? true : 0 == (true ? 1 : p->v); @*/ { } }",
+        "deep read at 1:111",
+    ),
+    (
+        "struct s { int v; }; int f(struct s* p) { /*@assert p->v == 1 || true; fold q(true && p->v == 1); @*/ return 0; }",
+        "deep read at 1:88",
+    ),
+];
 
 #[test]
-fn names_the_first_fault(rt: HostRuntime) {
+fn names_the_first_fault(rt: HostRuntime) -> Result<(), Fail> {
     let alloc = rt.alloc();
-    assert_eq!(rt;
-        fault(alloc, b"int main() { return 7 / 2; }"),
-        Some((1, 23))
-    );
-    assert_eq!(rt; fault(alloc, b"int main() { }"), Some((1, 14)));
-    assert_eq!(rt;
-        fault(alloc, b"int f() { return \\result; }"),
-        Some((1, 18))
-    );
-    assert_eq!(rt;
-        fault(
-            alloc,
-            b"int f(int x)\n//@requires \\result == x;\n{ return x; }"
-        ),
-        Some((2, 13))
-    );
-    assert_eq!(rt;
-        fault(alloc, b"int f() { if (true) return 1; }"),
-        Some((1, 21))
-    );
-    assert_eq!(rt;
-        fault(alloc, b"int f() { x = g(1) + 1; return x; }"),
-        Some((1, 20))
-    );
-    assert_eq!(rt; fault(alloc, b"int f() { return 1; }\nint"), Some((2, 4)));
+    for (text, want) in TEXTS.iter() {
+        let got = told(alloc, text)?;
+        assert_eq!(rt; got.as_str(), *want, "at {text}");
+    }
+    Ok(())
 }

@@ -1,10 +1,10 @@
 -- The locals of a block stand behind those outside, and the least violation of its statements.
 use Rattle.std.proofs.Common.{◌≡◌, List, [], ◌∷◌, ◌++◌, fold, length, take, Option, refl, sym, ap, ◌∙◌, append_assoc}
 use Rattle.std.proofs.Math.Seq.{take-append_seam}
-use Rattle.c0_parse.specs.declared.tree.Shape.{Shape}
-use Rattle.c0_parse.specs.declared.tree.Stmt.{Stmt}
-use Rattle.c0_parse.specs.Tree.{StmtTree, declare, assign, call_stmt, print_stmt, return_stmt, if_stmt, while_stmt, assert_stmt, FunctionTree}
-use Rattle.c0_parse.specs.Views.{stmt_view, stmts_view}
+use Rattle.built_text.specs.declared.tree.Shape.{Shape}
+use Rattle.built_text.specs.declared.tree.Stmt.{Stmt}
+use Rattle.built_text.specs.Tree.{StmtTree, declare, assign, call_stmt, print_stmt, return_stmt, if_stmt, while_stmt, assert_stmt, FunctionTree}
+use Rattle.built_text.specs.Views.{stmt_view, stmts_view}
 use Rattle.c0_types.specs.declared.violation.Violation.{Violation}
 use Rattle.c0_types.specs.declared.scope.Local.{Local}
 use Rattle.c0_types.specs.Violations.{earlier}

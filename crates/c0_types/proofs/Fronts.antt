@@ -7,10 +7,10 @@ use Rattle.gc0_tree.specs.declared.Conjunct.{Conjunct}
 use Rattle.gc0_tree.specs.declared.Stmt.{Stmt}
 use Rattle.gc0_tree.specs.Views.{expr_view, exprs_view, trees_of, conjunct_view, in_front, stmt_view, stmts_view, stmts_of}
 use Rattle.gc0_tree.specs.Tree.{Tree, Trees, no_trees, tree_and, Conjuncts, value_part, Stmts, no_stmts, stmt_and, block_at}
-use Rattle.c0_parse.specs.declared.tree.Expr as read_expr
-use Rattle.c0_parse.specs.declared.tree.Stmt as read_stmt
-use Rattle.c0_parse.specs.Tree.{FunctionTree}
-use Rattle.c0_parse.specs.Views as view
+use Rattle.built_text.specs.declared.tree.Expr as read_expr
+use Rattle.built_text.specs.declared.tree.Stmt as read_stmt
+use Rattle.built_text.specs.Tree.{FunctionTree}
+use Rattle.built_text.specs.Views as view
 use Rattle.c0_types.specs.Resolved.{Declared, expr_tree, exprs_tree, values, locals_behind, all_behind, otherwise_of, stmt_tree, stmts_tree}
 
 abbrev pub trees_before : List Expr → Trees → Trees

@@ -2,17 +2,17 @@
 use Rattle.std.specs.Prelude.{◌≡◌, ℕ, Bool, true, false, List, [], ◌∷◌, Some, refl}
 use Rattle.gc0_base.specs.declared.place.Place.{Place}
 use Rattle.gc0_base.specs.declared.word.Word.{Word}
-use Rattle.c0_parse.specs.declared.tree.Spot.{Spot}
-use Rattle.c0_parse.specs.declared.tree.Shape.{Shape}
-use Rattle.c0_parse.specs.declared.tree.Shape.TheVariants.{Int, Bool as Truth}
-use Rattle.c0_parse.specs.declared.tree.Typed.{Typed}
-use Rattle.c0_parse.specs.declared.tree.Named.{Named}
-use Rattle.c0_parse.specs.declared.tree.UnaryOperator.TheVariants.{Not, Negate}
-use Rattle.c0_parse.specs.declared.tree.Operator.TheVariants as op
-use Rattle.c0_parse.specs.declared.tree.ClauseKind.{ClauseKind}
-use Rattle.c0_parse.specs.declared.tree.ClauseKind.TheVariants.{Requires, Ensures}
-use Rattle.c0_parse.specs.declared.tree.Parameter.{Parameter}
-use Rattle.c0_parse.specs.Tree.{ExprTree, number, truth, local, outcome, unary, binary, CallTree, RightTree, value, call, NoteTree, StmtTree, declare, assign, call_stmt, print_stmt, return_stmt, if_stmt, while_stmt, assert_stmt, StmtTrees, no_stmts, stmt, ClauseTree, FunctionTree, ProgramTree}
+use Rattle.built_text.specs.declared.tree.Spot.{Spot}
+use Rattle.built_text.specs.declared.tree.Shape.{Shape}
+use Rattle.built_text.specs.declared.tree.Shape.TheVariants.{Int, Bool as Truth}
+use Rattle.built_text.specs.declared.tree.Typed.{Typed}
+use Rattle.built_text.specs.declared.tree.Named.{Named}
+use Rattle.built_text.specs.declared.tree.UnaryOperator.TheVariants.{Not, Negate}
+use Rattle.built_text.specs.declared.tree.Operator.TheVariants as op
+use Rattle.built_text.specs.declared.tree.ClauseKind.{ClauseKind}
+use Rattle.built_text.specs.declared.tree.ClauseKind.TheVariants.{Requires, Ensures}
+use Rattle.built_text.specs.declared.tree.Parameter.{Parameter}
+use Rattle.built_text.specs.Tree.{ExprTree, number, truth, local, outcome, unary, binary, CallTree, RightTree, value, call, NoteTree, StmtTree, declare, assign, call_stmt, print_stmt, return_stmt, if_stmt, while_stmt, assert_stmt, StmtTrees, no_stmts, stmt, ClauseTree, FunctionTree, ProgramTree}
 use Rattle.c0_types.specs.declared.violation.Rule.TheVariants as rule
 use Rattle.c0_types.specs.Violations.{violation, least_of}
 use Rattle.c0_types.specs.Rules.{violations}

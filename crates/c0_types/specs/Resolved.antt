@@ -2,16 +2,16 @@
 use Rattle.std.specs.Prelude.{ℕ, ◌+◌, Bool, true, false, ◌||◌, not, length, List, [], ◌∷◌, ◌++◌, map, Option, Some, None, if◌then◌else◌}
 use Rattle.std.specs.Str.{bytes_eq}
 use Rattle.gc0_base.specs.declared.place.Place.{Place}
-use Rattle.c0_parse.specs.declared.tree.Shape.{Shape}
-use Rattle.c0_parse.specs.declared.tree.Shape.TheVariants.{Int, Bool as Truth}
-use Rattle.c0_parse.specs.declared.tree.UnaryOperator.{UnaryOperator}
-use Rattle.c0_parse.specs.declared.tree.UnaryOperator.TheVariants.{Not, Negate}
-use Rattle.c0_parse.specs.declared.tree.Operator.{Operator}
-use Rattle.c0_parse.specs.declared.tree.Operator.TheVariants as op
-use Rattle.c0_parse.specs.declared.tree.Parameter.{Parameter}
-use Rattle.c0_parse.specs.declared.tree.ClauseKind.{ClauseKind}
-use Rattle.c0_parse.specs.declared.tree.ClauseKind.TheVariants.{Requires, Ensures}
-use Rattle.c0_parse.specs.Tree.{ExprTree, number, truth, local, outcome, unary, binary, CallTree, RightTree, value, call, FormulaTree, NoteTree, StmtTree, declare, assign, call_stmt, print_stmt, return_stmt, if_stmt, while_stmt, assert_stmt, StmtTrees, no_stmts, stmt, ClauseTree, FunctionTree, ProgramTree}
+use Rattle.built_text.specs.declared.tree.Shape.{Shape}
+use Rattle.built_text.specs.declared.tree.Shape.TheVariants.{Int, Bool as Truth}
+use Rattle.built_text.specs.declared.tree.UnaryOperator.{UnaryOperator}
+use Rattle.built_text.specs.declared.tree.UnaryOperator.TheVariants.{Not, Negate}
+use Rattle.built_text.specs.declared.tree.Operator.{Operator}
+use Rattle.built_text.specs.declared.tree.Operator.TheVariants as op
+use Rattle.built_text.specs.declared.tree.Parameter.{Parameter}
+use Rattle.built_text.specs.declared.tree.ClauseKind.{ClauseKind}
+use Rattle.built_text.specs.declared.tree.ClauseKind.TheVariants.{Requires, Ensures}
+use Rattle.built_text.specs.Tree.{ExprTree, number, truth, local, outcome, unary, binary, CallTree, RightTree, value, call, FormulaTree, NoteTree, StmtTree, declare, assign, call_stmt, print_stmt, return_stmt, if_stmt, while_stmt, assert_stmt, StmtTrees, no_stmts, stmt, ClauseTree, FunctionTree, ProgramTree}
 use Rattle.gc0_tree.specs.declared.Shape.{Shape as CoreShape}
 use Rattle.gc0_tree.specs.declared.Shape.TheVariants as core_shape
 use Rattle.gc0_tree.specs.declared.UnaryOp.{UnaryOp}

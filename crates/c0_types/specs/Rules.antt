@@ -2,15 +2,15 @@
 -- Source: C0 Reference, "Types", "Functions" and "Scope"; of contracts, the Gradual C0 paper.
 use Rattle.std.specs.Prelude.{ℕ, Bool, true, false, ◌&&◌, not, eqb, length, List, [], ◌∷◌, ◌++◌, Option, Some, None, is_some, slice_get, ◌+◌, if◌then◌else◌}
 use Rattle.gc0_base.specs.declared.place.Place.{Place}
-use Rattle.c0_parse.specs.declared.tree.Shape.{Shape}
-use Rattle.c0_parse.specs.declared.tree.Shape.TheVariants.{Int, Bool as Truth}
-use Rattle.c0_parse.specs.declared.tree.UnaryOperator.{UnaryOperator}
-use Rattle.c0_parse.specs.declared.tree.Operator.{Operator}
-use Rattle.c0_parse.specs.declared.tree.Parameter.{Parameter}
-use Rattle.c0_parse.specs.declared.tree.Named.{Named}
-use Rattle.c0_parse.specs.declared.tree.ClauseKind.{ClauseKind}
-use Rattle.c0_parse.specs.declared.tree.ClauseKind.TheVariants as side
-use Rattle.c0_parse.specs.Tree.{ExprTree, number, truth, local, outcome, unary, binary, spot_of, CallTree, RightTree, value, call, NoteTree, StmtTree, declare, assign, call_stmt, print_stmt, return_stmt, if_stmt, while_stmt, assert_stmt, StmtTrees, no_stmts, stmt, ClauseTree, FunctionTree, ProgramTree}
+use Rattle.built_text.specs.declared.tree.Shape.{Shape}
+use Rattle.built_text.specs.declared.tree.Shape.TheVariants.{Int, Bool as Truth}
+use Rattle.built_text.specs.declared.tree.UnaryOperator.{UnaryOperator}
+use Rattle.built_text.specs.declared.tree.Operator.{Operator}
+use Rattle.built_text.specs.declared.tree.Parameter.{Parameter}
+use Rattle.built_text.specs.declared.tree.Named.{Named}
+use Rattle.built_text.specs.declared.tree.ClauseKind.{ClauseKind}
+use Rattle.built_text.specs.declared.tree.ClauseKind.TheVariants as side
+use Rattle.built_text.specs.Tree.{ExprTree, number, truth, local, outcome, unary, binary, spot_of, CallTree, RightTree, value, call, NoteTree, StmtTree, declare, assign, call_stmt, print_stmt, return_stmt, if_stmt, while_stmt, assert_stmt, StmtTrees, no_stmts, stmt, ClauseTree, FunctionTree, ProgramTree}
 use Rattle.c0_types.specs.declared.violation.Rule.TheVariants as rule
 use Rattle.c0_types.specs.declared.violation.Violation.{Violation}
 use Rattle.c0_types.specs.declared.scope.Standing.{Standing}

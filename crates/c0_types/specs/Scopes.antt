@@ -2,13 +2,13 @@
 -- Source: C0 Reference, "Scope" and "Functions".
 use Rattle.std.specs.Prelude.{ℕ, zero, suc, Bool, true, false, ◌||◌, List, [], ◌∷◌, ◌++◌, fold, map, Option, Some, None, if◌then◌else◌}
 use Rattle.std.specs.Str.{bytes_eq}
-use Rattle.c0_parse.specs.declared.tree.Shape.{Shape}
-use Rattle.c0_parse.specs.declared.tree.ClauseKind.{ClauseKind}
-use Rattle.c0_parse.specs.declared.tree.ClauseKind.TheVariants as side
-use Rattle.c0_parse.specs.declared.tree.Parameter.{Parameter}
-use Rattle.c0_parse.specs.declared.tree.Function.{Function}
-use Rattle.c0_parse.specs.Views.{function_view}
-use Rattle.c0_parse.specs.Tree.{ExprTree, number, truth, local, outcome, unary, binary, StmtTree, declare, assign, call_stmt, print_stmt, return_stmt, if_stmt, while_stmt, assert_stmt, ClauseTree, FunctionTree}
+use Rattle.built_text.specs.declared.tree.Shape.{Shape}
+use Rattle.built_text.specs.declared.tree.ClauseKind.{ClauseKind}
+use Rattle.built_text.specs.declared.tree.ClauseKind.TheVariants as side
+use Rattle.built_text.specs.declared.tree.Parameter.{Parameter}
+use Rattle.built_text.specs.declared.tree.Function.{Function}
+use Rattle.built_text.specs.Views.{function_view}
+use Rattle.built_text.specs.Tree.{ExprTree, number, truth, local, outcome, unary, binary, StmtTree, declare, assign, call_stmt, print_stmt, return_stmt, if_stmt, while_stmt, assert_stmt, ClauseTree, FunctionTree}
 use Rattle.c0_types.specs.declared.scope.Standing.{Standing}
 use Rattle.c0_types.specs.declared.scope.Local.{Local}
 

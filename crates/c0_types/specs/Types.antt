@@ -2,14 +2,14 @@
 -- Source: C0 Reference, "Types" and "Expressions".
 use Rattle.std.specs.Prelude.{ℕ, Bool, true, false, ◌&&◌, eqb, length, List, [], ◌∷◌, Option, Some, None, is_some, slice_get, ◌+◌, if◌then◌else◌}
 use Rattle.std.specs.Option.{option_map}
-use Rattle.c0_parse.specs.declared.tree.Shape.{Shape}
-use Rattle.c0_parse.specs.declared.tree.Shape.TheVariants.{Int, Bool as Truth}
-use Rattle.c0_parse.specs.declared.tree.UnaryOperator.{UnaryOperator}
-use Rattle.c0_parse.specs.declared.tree.UnaryOperator.TheVariants.{Not, Negate}
-use Rattle.c0_parse.specs.declared.tree.Operator.{Operator}
-use Rattle.c0_parse.specs.declared.tree.Operator.TheVariants as op
-use Rattle.c0_parse.specs.declared.tree.Parameter.{Parameter}
-use Rattle.c0_parse.specs.Tree.{ExprTree, number, truth, local, outcome, unary, binary, CallTree, RightTree, value, call, FunctionTree}
+use Rattle.built_text.specs.declared.tree.Shape.{Shape}
+use Rattle.built_text.specs.declared.tree.Shape.TheVariants.{Int, Bool as Truth}
+use Rattle.built_text.specs.declared.tree.UnaryOperator.{UnaryOperator}
+use Rattle.built_text.specs.declared.tree.UnaryOperator.TheVariants.{Not, Negate}
+use Rattle.built_text.specs.declared.tree.Operator.{Operator}
+use Rattle.built_text.specs.declared.tree.Operator.TheVariants as op
+use Rattle.built_text.specs.declared.tree.Parameter.{Parameter}
+use Rattle.built_text.specs.Tree.{ExprTree, number, truth, local, outcome, unary, binary, CallTree, RightTree, value, call, FunctionTree}
 use Rattle.c0_types.specs.declared.scope.Local.{Local}
 use Rattle.c0_types.specs.Scopes.{known, function_in}
 

@@ -1,6 +1,6 @@
 ghost use Rattle.std.specs.Option.{option_map};
 ghost use Rattle.std.specs.Prelude.{◌≡◌, ◌++◌, ◌∷◌, [], ◌||◌, length, map, Option, Some, None, IfOk, OnOk};
-ghost use Rattle.c0_parse.specs.Views as read;
+ghost use Rattle.built_text.specs.Views as read;
 ghost use Rattle.c0_types.specs.Scopes.{functions_view, function_number};
 ghost use Rattle.c0_types.specs.Rules.{main_name};
 ghost use Rattle.c0_types.specs.Resolved.{shape_of, unary_of, operator_of, print_of, declared_as, local_number, expr_tree, exprs_tree, one_tree, call_tree, right_tree, values, notes_values, formula_tree, are_none, any_imprecise, joined, is_of, notes_of, locals_behind, all_behind, otherwise_of, stmt_tree, stmts_tree, parameter_locals, function_tree, functions_tree, resolved};
@@ -8,7 +8,7 @@ ghost use Rattle.gc0_tree.specs.Tree as core;
 ghost use Rattle.gc0_tree.specs.Views.{expr_view, exprs_view, form_view, formula_view, conjunct_view, in_front, trees_in, stmt_view, stmts_view, stmts_in, stmt_form_view, function_view, program_view};
 
 use crate::scope::function_number;
-use c0_parse::{Call, Clause, ClauseKind, Operator, Parameter, Right, UnaryOperator};
+use built_text::{Call, Clause, ClauseKind, Operator, Parameter, Right, UnaryOperator};
 use gc0_base::Place;
 use gc0_tree::{
     Conjunct, Expr, ExprForm, ExprOp, Formula, Function, LibraryCall, Note, Program, Shape, Stmt,
@@ -27,12 +27,12 @@ fn number(n: usize) -> Result<u32, AllocError>
     }
 }
 
-fn shape_of(shape: c0_parse::Shape) -> Shape
+fn shape_of(shape: built_text::Shape) -> Shape
     ensures { result ≡ shape_of shape }
 {
     match shape {
-        c0_parse::Shape::Int => Shape::Int,
-        c0_parse::Shape::Bool => Shape::Bool,
+        built_text::Shape::Int => Shape::Int,
+        built_text::Shape::Bool => Shape::Bool,
     }
 }
 
@@ -61,12 +61,12 @@ fn operator_of(operator: Operator) -> ExprOp
     }
 }
 
-fn print_of(shape: c0_parse::Shape) -> LibraryCall
+fn print_of(shape: built_text::Shape) -> LibraryCall
     ensures { result ≡ print_of shape }
 {
     match shape {
-        c0_parse::Shape::Int => LibraryCall::PrintInt,
-        c0_parse::Shape::Bool => LibraryCall::PrintBool,
+        built_text::Shape::Int => LibraryCall::PrintInt,
+        built_text::Shape::Bool => LibraryCall::PrintBool,
     }
 }
 
@@ -123,20 +123,20 @@ fn local(locals: &[(Items<u8>, Shape)], place: Place, name: &[u8]) -> Result<Exp
 fn expression(
     alloc: Global,
     locals: &[(Items<u8>, Shape)],
-    e: &c0_parse::Expr,
+    e: &built_text::Expr,
 ) -> Result<Expr, AllocError>
     ensures { IfOk result (λ t. expr_view t ≡ expr_tree locals.now (read.expr_view e.now)) }
 {
     match e {
-        c0_parse::Expr::Number(spot, word) => Ok(placed(spot.place, ExprForm::Number(*word))),
-        c0_parse::Expr::Truth(spot, truth) => Ok(placed(spot.place, ExprForm::Truth(*truth))),
-        c0_parse::Expr::Local(spot, name) => local(locals, spot.place, name.as_slice()),
-        c0_parse::Expr::Outcome(spot) => Ok(placed(spot.place, ExprForm::ResultValue)),
-        c0_parse::Expr::Unary(spot, operator, x) => {
+        built_text::Expr::Number(spot, word) => Ok(placed(spot.place, ExprForm::Number(*word))),
+        built_text::Expr::Truth(spot, truth) => Ok(placed(spot.place, ExprForm::Truth(*truth))),
+        built_text::Expr::Local(spot, name) => local(locals, spot.place, name.as_slice()),
+        built_text::Expr::Outcome(spot) => Ok(placed(spot.place, ExprForm::ResultValue)),
+        built_text::Expr::Unary(spot, operator, x) => {
             let x = expression(alloc, locals, x.get())?;
             unary(alloc, spot.place, *operator, x)
         }
-        c0_parse::Expr::Binary(spot, operator, x, y) => {
+        built_text::Expr::Binary(spot, operator, x, y) => {
             let x = expression(alloc, locals, x.get())?;
             let y = expression(alloc, locals, y.get())?;
             binary(alloc, spot.place, *operator, x, y)
@@ -147,7 +147,7 @@ fn expression(
 fn expressions(
     alloc: Global,
     locals: &[(Items<u8>, Shape)],
-    es: &[c0_parse::Expr],
+    es: &[built_text::Expr],
 ) -> Result<Items<Expr>, AllocError>
     ensures { IfOk result (λ ts. exprs_view ts ≡ exprs_tree locals.now (read.exprs_view es.now)) }
 {
@@ -161,7 +161,7 @@ fn expressions(
 
 fn call(
     alloc: Global,
-    functions: &[c0_parse::Function],
+    functions: &[built_text::Function],
     locals: &[(Items<u8>, Shape)],
     call: &Call,
 ) -> Result<Expr, AllocError>
@@ -178,7 +178,7 @@ fn call(
 
 fn right(
     alloc: Global,
-    functions: &[c0_parse::Function],
+    functions: &[built_text::Function],
     locals: &[(Items<u8>, Shape)],
     right: &Right,
 ) -> Result<Expr, AllocError>
@@ -200,7 +200,7 @@ fn value_part(e: Expr) -> Conjunct
 fn push_parts(
     alloc: Global,
     locals: &[(Items<u8>, Shape)],
-    es: &[c0_parse::Expr],
+    es: &[built_text::Expr],
     parts: &mut Items<Conjunct>,
 ) -> Result<(), AllocError>
     ensures { OnOk result ((rest : core.Conjuncts) → in_front (map conjunct_view parts.new) rest ≡ in_front (map conjunct_view parts.old) (values locals.now (read.exprs_view es.now) rest)) }
@@ -215,7 +215,7 @@ fn push_parts(
 fn formula(
     alloc: Global,
     locals: &[(Items<u8>, Shape)],
-    formula: &c0_parse::Formula,
+    formula: &built_text::Formula,
 ) -> Result<Formula, AllocError>
     ensures { IfOk result (λ f. formula_view f ≡ formula_tree locals.now (read.formula_view formula.now)) }
 {
@@ -227,7 +227,7 @@ fn formula(
     })
 }
 
-fn any_imprecise(notes: &[c0_parse::Note]) -> bool
+fn any_imprecise(notes: &[built_text::Note]) -> bool
     ensures { result ≡ any_imprecise (read.notes_view notes.now) }
 {
     for note in notes {
@@ -242,7 +242,7 @@ fn any_imprecise(notes: &[c0_parse::Note]) -> bool
 fn joined(
     alloc: Global,
     locals: &[(Items<u8>, Shape)],
-    notes: &[c0_parse::Note],
+    notes: &[built_text::Note],
 ) -> Result<Formula, AllocError>
     ensures { IfOk result (λ f. formula_view f ≡ joined locals.now (read.notes_view notes.now)) }
 {
@@ -312,7 +312,7 @@ fn declare(
     alloc: Global,
     locals: &mut Items<(Items<u8>, Shape)>,
     name: &[u8],
-    shape: c0_parse::Shape,
+    shape: built_text::Shape,
 ) -> Result<(), AllocError>
     ensures { OnOk result (locals.new ≡ locals.old ++ declared_as name.now shape ∷ []) }
 {
@@ -384,7 +384,7 @@ fn written(place: Place, call: LibraryCall, argument: Option<Boxed<Expr>>) -> Ex
 fn print_statement(
     alloc: Global,
     place: Place,
-    shape: c0_parse::Shape,
+    shape: built_text::Shape,
     value: Expr,
 ) -> Result<Stmt, AllocError>
     ensures { IfOk result (λ s. stmt_view s ≡ core.plain_at place (core.library_at place (print_of shape) (one_tree (expr_view value)) None)) }
@@ -450,15 +450,15 @@ fn while_statement(
 #[cycle(statement)]
 fn statement(
     alloc: Global,
-    functions: &[c0_parse::Function],
+    functions: &[built_text::Function],
     locals: &mut Items<(Items<u8>, Shape)>,
-    statement: &c0_parse::Stmt,
+    statement: &built_text::Stmt,
 ) -> Result<Stmt, AllocError>
     ensures tree { IfOk result (λ t. stmt_view t ≡ stmt_tree (functions_view functions.now) locals.old (read.stmt_view statement.now)) }
     ensures locals { OnOk result (locals.new ≡ locals_behind locals.old (read.stmt_view statement.now)) }
 {
     match statement {
-        c0_parse::Stmt::Declare {
+        built_text::Stmt::Declare {
             typed,
             name,
             equals: _,
@@ -469,7 +469,7 @@ fn statement(
             declare(alloc, locals, name.name.as_slice(), typed.shape)?;
             Ok(declare_statement(typed.place, local, value))
         }
-        c0_parse::Stmt::Assign {
+        built_text::Stmt::Assign {
             name,
             equals,
             right: r,
@@ -478,11 +478,11 @@ fn statement(
             let local = number(local_number(locals.as_slice(), name.name.as_slice()))?;
             Ok(assign_statement(name.place, local, *equals, value))
         }
-        c0_parse::Stmt::Call(c) => {
+        built_text::Stmt::Call(c) => {
             let value = call(alloc, functions, locals.as_slice(), c)?;
             Ok(plain_statement(c.name.place, value))
         }
-        c0_parse::Stmt::Print {
+        built_text::Stmt::Print {
             place,
             shape,
             value,
@@ -490,11 +490,11 @@ fn statement(
             let value = expression(alloc, locals.as_slice(), value)?;
             print_statement(alloc, *place, *shape, value)
         }
-        c0_parse::Stmt::Return { place, value } => {
+        built_text::Stmt::Return { place, value } => {
             let value = expression(alloc, locals.as_slice(), value)?;
             Ok(return_statement(*place, value))
         }
-        c0_parse::Stmt::If {
+        built_text::Stmt::If {
             place,
             test,
             body,
@@ -505,7 +505,7 @@ fn statement(
             let otherwise = block(alloc, functions, locals, otherwise.as_slice())?;
             if_statement(alloc, *place, test, body, otherwise)
         }
-        c0_parse::Stmt::While {
+        built_text::Stmt::While {
             place,
             test,
             invariants,
@@ -516,7 +516,7 @@ fn statement(
             let body = block(alloc, functions, locals, body.as_slice())?;
             while_statement(alloc, *place, invariant, test, body)
         }
-        c0_parse::Stmt::Assert(note) => {
+        built_text::Stmt::Assert(note) => {
             let formula = formula(alloc, locals.as_slice(), &note.formula)?;
             Ok(assert_statement(note.place, formula))
         }
@@ -526,9 +526,9 @@ fn statement(
 #[cycle(statement)]
 fn block(
     alloc: Global,
-    functions: &[c0_parse::Function],
+    functions: &[built_text::Function],
     locals: &mut Items<(Items<u8>, Shape)>,
-    statements: &[c0_parse::Stmt],
+    statements: &[built_text::Stmt],
 ) -> Result<Items<Stmt>, AllocError>
     ensures tree { IfOk result (λ ts. stmts_view ts ≡ stmts_tree (functions_view functions.now) locals.old (read.stmts_view statements.now)) }
     ensures locals { OnOk result (locals.new ≡ all_behind locals.old (read.stmts_view statements.now)) }
@@ -557,8 +557,8 @@ fn parameters(
 
 fn function(
     alloc: Global,
-    functions: &[c0_parse::Function],
-    function: &c0_parse::Function,
+    functions: &[built_text::Function],
+    function: &built_text::Function,
 ) -> Result<Function, AllocError>
     ensures { IfOk result (λ f. function_view f ≡ function_tree (functions_view functions.now) (read.function_view function.now)) }
 {
@@ -582,7 +582,7 @@ fn function(
 
 fn all_functions(
     alloc: Global,
-    functions: &[c0_parse::Function],
+    functions: &[built_text::Function],
 ) -> Result<Items<Function>, AllocError>
     ensures { IfOk result (λ fs. map function_view fs ≡ functions_tree (functions_view functions.now) (functions_view functions.now)) }
 {
@@ -595,7 +595,7 @@ fn all_functions(
 }
 
 /// The resolved tree of a program that violates no rule.
-pub fn build(alloc: Global, program: &c0_parse::Program) -> Result<Program, AllocError>
+pub fn build(alloc: Global, program: &built_text::Program) -> Result<Program, AllocError>
     ensures { IfOk result (λ q. program_view q ≡ resolved (read.program_view program.now)) }
 {
     let functions = program.functions.as_slice();

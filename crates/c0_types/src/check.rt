@@ -2,9 +2,9 @@
 
 ghost use Rattle.std.specs.Prelude.{◌≡◌, ◌&&◌, fold, not, false, ◌∷◌, slice_get, is_some, None, Some, if◌then◌else◌, [], IfOk, OnOk, ◌++◌};
 ghost use Rattle.std.specs.Option.{option_map};
-ghost use Rattle.c0_parse.specs.Tree.{spot_of};
-ghost use Rattle.c0_parse.specs.Views.{expr_view, exprs_view, call_view, right_view, note_view, notes_view, stmt_view, stmts_view, clauses_view, function_view, program_view};
-ghost use Rattle.c0_parse.specs.declared.tree.Shape.TheVariants.{Bool};
+ghost use Rattle.built_text.specs.Tree.{spot_of};
+ghost use Rattle.built_text.specs.Views.{expr_view, exprs_view, call_view, right_view, note_view, notes_view, stmt_view, stmts_view, clauses_view, function_view, program_view};
+ghost use Rattle.built_text.specs.declared.tree.Shape.TheVariants.{Bool};
 ghost use Rattle.c0_types.specs.declared.violation.Rule.TheVariants.{Unknown, NoMain};
 ghost use Rattle.c0_types.specs.Violations.{earlier, least_of, unless};
 ghost use Rattle.c0_types.specs.Scopes.{functions_view, known, local_of, scope_behind, parameters_scope, function_in};
@@ -13,7 +13,7 @@ ghost use Rattle.c0_types.specs.Rules.{operand_violations, operands_violations, 
 
 use crate::scope::{Local, Standing, declare, ensures_names, function_in, function_number, known};
 use crate::violation::{Rule, Violation, report, report_unless};
-use c0_parse::{
+use built_text::{
     Call, Clause, ClauseKind, Expr, Function, Named, Note, Operator, Parameter, Program, Right,
     Shape, Spot, Stmt, Typed, UnaryOperator,
 };

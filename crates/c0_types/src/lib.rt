@@ -10,7 +10,7 @@ mod scope;
 mod violation;
 
 ghost use Rattle.std.specs.Prelude.{◌≡◌, [], IfOk, IfErr};
-ghost use Rattle.c0_parse.specs.Views as read;
+ghost use Rattle.built_text.specs.Views as read;
 ghost use Rattle.gc0_tree.specs.Views.{program_view};
 ghost use Rattle.c0_types.specs.Violations.{Reports};
 ghost use Rattle.c0_types.specs.Rules.{violations};
@@ -38,7 +38,7 @@ pub use violation::{Rule, TypeFault, Violation};
 /// `Memory` where there is not memory enough, or where there are more than 2^32 - 1 functions or
 /// locals.
 #[tactic(auto, using(crate::proofs::Least::none_found))]
-pub fn resolve(alloc: Global, parsed: &c0_parse::Program) -> Result<Program, TypeFault>
+pub fn resolve(alloc: Global, parsed: &built_text::Program) -> Result<Program, TypeFault>
     ensures kept { IfOk result (λ q. violations (read.program_view parsed.now) ≡ []) }
     ensures program { IfOk result (λ q. program_view q ≡ resolved (read.program_view parsed.now)) }
     ensures fault { IfErr result (λ f. Reports (violations (read.program_view parsed.now)) f) }

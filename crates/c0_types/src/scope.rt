@@ -1,9 +1,9 @@
 ghost use Rattle.std.specs.Prelude.{◌≡◌, [], IfOk, OnOk, ◌++◌, ◌∷◌};
 ghost use Rattle.std.specs.Option.{option_map, option_copied};
-ghost use Rattle.c0_parse.specs.Views.{expr_view, exprs_view, clauses_view, function_view};
+ghost use Rattle.built_text.specs.Views.{expr_view, exprs_view, clauses_view, function_view};
 ghost use Rattle.c0_types.specs.Scopes.{functions_view, known, local_of, names, any_names, is_ensures, ensures_names, function_in, function_number};
 
-use c0_parse::{Clause, ClauseKind, Expr, Function, Shape};
+use built_text::{Clause, ClauseKind, Expr, Function, Shape};
 use sqlite_items::Items;
 use std::alloc::{AllocError, Global};
 

@@ -3,17 +3,17 @@ use Rattle.std.proofs.Common.{◌≡◌, ℕ, zero, suc, ◌+◌, Bool, true, fa
 use Rattle.std.specs.Option.{option_map}
 use Rattle.std.specs.Str.{bytes_eq}
 use Rattle.gc0_base.specs.declared.place.Place.{Place}
-use Rattle.c0_parse.specs.declared.tree.Shape.{Shape}
-use Rattle.c0_parse.specs.declared.tree.Shape.TheVariants.{Int, Bool as Truth}
-use Rattle.c0_parse.specs.declared.tree.UnaryOperator.{UnaryOperator}
-use Rattle.c0_parse.specs.declared.tree.UnaryOperator.TheVariants.{Not, Negate}
-use Rattle.c0_parse.specs.declared.tree.Operator.{Operator}
-use Rattle.c0_parse.specs.declared.tree.Operator.TheVariants as op
-use Rattle.c0_parse.specs.declared.tree.Parameter.{Parameter}
-use Rattle.c0_parse.specs.declared.tree.ClauseKind.TheVariants.{Requires, Ensures}
-use Rattle.c0_parse.specs.declared.token.Token.{Token}
-use Rattle.c0_parse.specs.Tree.{ExprTree, number, truth, local, outcome, unary, binary, spot_of, CallTree, RightTree, value, call, NoteTree, StmtTree, declare, assign, call_stmt, print_stmt, return_stmt, if_stmt, while_stmt, assert_stmt, StmtTrees, no_stmts, stmt, FunctionTree, ProgramTree}
-use Rattle.c0_parse.specs.Grammar.{is_return, last_returns, FunctionText, function_trees, GoodFunctions, IsProgram}
+use Rattle.built_text.specs.declared.tree.Shape.{Shape}
+use Rattle.built_text.specs.declared.tree.Shape.TheVariants.{Int, Bool as Truth}
+use Rattle.built_text.specs.declared.tree.UnaryOperator.{UnaryOperator}
+use Rattle.built_text.specs.declared.tree.UnaryOperator.TheVariants.{Not, Negate}
+use Rattle.built_text.specs.declared.tree.Operator.{Operator}
+use Rattle.built_text.specs.declared.tree.Operator.TheVariants as op
+use Rattle.built_text.specs.declared.tree.Parameter.{Parameter}
+use Rattle.built_text.specs.declared.tree.ClauseKind.TheVariants.{Requires, Ensures}
+use Rattle.built_text.specs.declared.token.Token.{Token}
+use Rattle.built_text.specs.Tree.{ExprTree, number, truth, local, outcome, unary, binary, spot_of, CallTree, RightTree, value, call, NoteTree, StmtTree, declare, assign, call_stmt, print_stmt, return_stmt, if_stmt, while_stmt, assert_stmt, StmtTrees, no_stmts, stmt, FunctionTree, ProgramTree}
+use Rattle.built_text.specs.Grammar.{is_return, last_returns, FunctionText, function_trees, GoodFunctions, IsProgram}
 use Rattle.c0_types.specs.declared.violation.Rule.{Rule}
 use Rattle.c0_types.specs.declared.violation.Rule.TheVariants as rule
 use Rattle.c0_types.specs.declared.violation.Violation.{Violation}

@@ -1,92 +1,99 @@
--- What follows from the answer where the file and its tree are given.
-use Rattle.std.proofs.Common.{◌≡◌, List, ℕ, [], ◌∷◌, ◌++◌, length, Option, Some, None, IfSome, inl, inr, refl, sym, subst, ◌∙◌, ap, append_assoc, arith, ◌≤◌, ◌<◌}
+-- What follows from the answer where the file and its text are given.
+use Rattle.std.proofs.Common.{◌≡◌, List, ℕ, [], length, Option, Some, None, IfSome, inl, inr, refl, sym, subst, ◌∙◌, ap, arith, ◌≤◌, ◌<◌}
 use Rattle.std.specs.Prelude.{◌⊎◌}
-use Rattle.c0_parse.specs.Tree.{ProgramTree}
-use Rattle.c0_parse.specs.Reads.{Reads, FirstFault, OneTree}
-use Rattle.c0_parse.specs.Grammar.{IsProgram}
-use Rattle.c0_parse.specs.Tokens.{tokens_of}
-use Rattle.std.specs.Option.{option_map}
-use Rattle.c0_types.specs.declared.violation.TypeFault.{TypeFault}
-use Rattle.c0_types.specs.Violations.{least_of, fault_of}
-use Rattle.c0_types.specs.Rules.{violations}
+use Rattle.built_text.specs.Tree.{ProgramTree}
+use Rattle.c0_types.specs.Resolved.{resolved}
 use Rattle.gradual_top.specs.declared.status.Status.{Status}
 use Rattle.gradual_top.specs.declared.status.Status.TheVariants.{Returned, Stopped, Fault, StepsUsed, Refused, Limit, Absent, ReadFault, WriteFault, Memory, NotBuilt, Usage}
 use Rattle.gradual_top.specs.Requests.{Asked, asked_in}
-use Rattle.gradual_top.specs.Lines.{status_of}
-use Rattle.gradual_top.specs.Outcomes.{Call, Asks, Reaches, Ran, run_of, Answered, Given, Faultless, IsEnding, IsMeant, IsComplete}
+use Rattle.gradual_top.specs.Source.{IsSmall, Verdict, refused, too_deep, unbuilt, runs, IsVerdict}
+use Rattle.gradual_top.specs.Outcomes.{Outputs, Call, Asks, Reaches, Ran, IsRun, TextAnswered, OutputFailed, Answered, Given, Faultless, IsEnding, IsMeant, Does, IsExact}
+use Rattle.gradual_top.proofs.Verdicts.{Laws, same_tree, one_verdict}
 
 -- what was asked for
-same_ask : (call : Call) (text : List ℕ) (steps : ℕ) (tree : ProgramTree) (g : Given call text steps tree) (asked : Asked) → asked_in call.words ≡ Some asked → asked ≡ record { steps = steps; file = g.name }
-same_ask call text steps tree g asked e = let h = g.asked in cc
+same_ask : (call : Call) (text : List ℕ) (steps : ℕ) (g : Given call text steps) (asked : Asked) → asked_in call.words ≡ Some asked → asked ≡ record { steps = steps; file = g.name }
+same_ask call text steps g asked e = let h = g.asked in cc
 
-at_name : (call : Call) (text : List ℕ) (steps : ℕ) (tree : ProgramTree) (g : Given call text steps tree) (P : Option (List ℕ) → Type 0) (asked : Asked) → asked_in call.words ≡ Some asked → IfSome call.files (λ files. P (files asked.file)) → P (Some text)
-at_name call text steps tree g P asked e told =
-    let n = same_ask call text steps tree g asked e in
+at_name : (call : Call) (text : List ℕ) (steps : ℕ) (g : Given call text steps) (P : Option (List ℕ) → Type 0) (asked : Asked) → asked_in call.words ≡ Some asked → IfSome call.files (λ files. P (files asked.file)) → P (Some text)
+at_name call text steps g P asked e told =
+    let n = same_ask call text steps g asked e in
     let t = subst (λ f. IfSome f (λ files. P (files asked.file))) g.told told in
     subst P (ap (λ a. g.files a.file) n ∙ g.content) t
 
-same_text : (call : Call) (text other : List ℕ) (steps more : ℕ) (tree : ProgramTree) → Given call text steps tree → Asks call other more → text ≡ other
-same_text call text other steps more tree g a = let h = at_name call text steps tree g (λ o. o ≡ Some other) (record { steps = more; file = a.name }) a.asked a.told in cc
+same_text : (call : Call) (text other : List ℕ) (steps more : ℕ) → Given call text steps → Asks call other more → other ≡ text
+same_text call text other steps more g a = let h = at_name call text steps g (λ o. o ≡ Some other) (record { steps = more; file = a.name }) a.asked a.told in cc
 
-same_steps : (call : Call) (text other : List ℕ) (steps more : ℕ) (tree : ProgramTree) → Given call text steps tree → Asks call other more → more ≡ steps
-same_steps call text other steps more tree g a = ap (λ x. x.steps) (same_ask call text steps tree g (record { steps = more; file = a.name }) a.asked)
+same_steps : (call : Call) (text other : List ℕ) (steps more : ℕ) → Given call text steps → Asks call other more → more ≡ steps
+same_steps call text other steps more g a = ap (λ x. x.steps) (same_ask call text steps g (record { steps = more; file = a.name }) a.asked)
 
--- the tree that was reached is that of the file
-same_tree : OneTree → (call : Call) (status : Status) (text : List ℕ) (steps : ℕ) (tree : ProgramTree) → Given call text steps tree → (r : Reaches call status) → r.tree ≡ tree
-same_tree one call status text steps tree g r =
-    let t = same_text call text r.text steps r.steps tree g r.asks in
-    one r.text r.tree tree r.reads (subst (λ x. Reads x tree) t g.reads)
+-- what is said is said of this text and these steps
+of_given : (call : Call) (status : Status) (text : List ℕ) (steps : ℕ) → Given call text steps → Reaches call status → TextAnswered text steps call.outputs status
+of_given call status text steps g r =
+    subst (λ x. TextAnswered x steps call.outputs status) (same_text call text r.text steps r.steps g r.asks)
+    (subst (λ n. TextAnswered r.text n call.outputs status) (same_steps call text r.text steps r.steps g r.asks) r.answer)
 
-of_tree : OneTree → (call : Call) (status : Status) (text : List ℕ) (steps : ℕ) (tree : ProgramTree) → Given call text steps tree → (r : Reaches call status) → Ran r.text r.tree r.steps call.outputs status → Ran text tree steps call.outputs status
-of_tree one call status text steps tree g r ran =
-    let a = subst (λ t. Ran r.text t r.steps call.outputs status) (same_tree one call status text steps tree g r) ran in
-    let b = subst (λ n. Ran r.text tree n call.outputs status) (same_steps call text r.text steps r.steps tree g r.asks) a in
-    subst (λ x. Ran x tree steps call.outputs status) (sym (same_text call text r.text steps r.steps tree g r.asks)) b
+of_tree : Laws → (text : List ℕ) (tree : ProgramTree) (n : ℕ) (o : Outputs) (status : Status) → IsSmall text tree → IsRun text n o status → Ran text (resolved tree) n o status
+of_tree laws text tree n o status has r = subst (λ t. Ran text (resolved t) n o status) (same_tree laws text r.tree tree r.runnable.small has) r.ran
 
-pub meant : OneTree → (call : Call) (status : Status) → Answered call status → IsMeant call status
-meant one call Returned a text steps tree g is = of_tree one call Returned text steps tree g a a.ends
-meant one call Stopped a text steps tree g is = of_tree one call Stopped text steps tree g a a.ends
-meant one call Fault a text steps tree g is = of_tree one call Fault text steps tree g a a.ends
-meant one call StepsUsed a text steps tree g is = of_tree one call StepsUsed text steps tree g a a.ends
-meant one call Refused a text steps tree g is = absurd is
-meant one call Limit a text steps tree g is = absurd is
-meant one call Absent a text steps tree g is = absurd is
-meant one call ReadFault a text steps tree g is = absurd is
-meant one call WriteFault a text steps tree g is = absurd is
-meant one call Memory a text steps tree g is = absurd is
-meant one call NotBuilt a text steps tree g is = absurd is
-meant one call Usage a text steps tree g is = absurd is
+pub meant : Laws → (call : Call) (status : Status) → Answered call status → IsMeant call status
+meant laws call Returned a text steps tree g has is = of_tree laws text tree steps call.outputs Returned has (of_given call Returned text steps g a)
+meant laws call Stopped a text steps tree g has is = of_tree laws text tree steps call.outputs Stopped has (of_given call Stopped text steps g a)
+meant laws call Fault a text steps tree g has is = of_tree laws text tree steps call.outputs Fault has (of_given call Fault text steps g a)
+meant laws call StepsUsed a text steps tree g has is = of_tree laws text tree steps call.outputs StepsUsed has (of_given call StepsUsed text steps g a)
+meant laws call Refused a text steps tree g has is = absurd is
+meant laws call Limit a text steps tree g has is = absurd is
+meant laws call Absent a text steps tree g has is = absurd is
+meant laws call ReadFault a text steps tree g has is = absurd is
+meant laws call WriteFault a text steps tree g has is = absurd is
+meant laws call Memory a text steps tree g has is = absurd is
+meant laws call NotBuilt a text steps tree g has is = absurd is
+meant laws call Usage a text steps tree g has is = absurd is
 
-no_fault : (text : List ℕ) (p : ProgramTree) → Reads text p → (f : (place : _) × FirstFault (tokens_of text) place) → ⊥
-no_fault text p r f =
-    let x = f.1 in
-    x.none (x.after, p, subst (λ l. IsProgram l p) (x.split ∙ sym (append_assoc x.before (x.bad ∷ []) x.after)) r)
+-- a verdict of the text for which this is done
+pub record Judged (text : List ℕ) (n : ℕ) (o : Outputs) (status : Status) : Type 0 where
+  pub verdict : Verdict
+  pub is : IsVerdict text verdict
+  pub does : Does text verdict n o status
 
--- a tree that breaks no typing rule has no first violation
-no_violation : (tree : ProgramTree) (f : TypeFault) → violations tree ≡ [] → option_map fault_of (least_of (violations tree)) ≡ Some f → ⊥
-no_violation tree f v h = let e : None ≡ Some f = ap (λ vs. option_map fault_of (least_of vs)) (sym v) ∙ h in cc
+judged : (text : List ℕ) (n : ℕ) (o : Outputs) (status : Status) → TextAnswered text n o status → (OutputFailed o → ⊥) → Judged text n o status ⊎ (status ≡ Memory)
+judged text n o Returned a f = inl (record { verdict = runs a.tree; is = a.runnable; does = a.ran })
+judged text n o Stopped a f = inl (record { verdict = runs a.tree; is = a.runnable; does = a.ran })
+judged text n o Fault a f = inl (record { verdict = runs a.tree; is = a.runnable; does = a.ran })
+judged text n o StepsUsed a f = inl (record { verdict = runs a.tree; is = a.runnable; does = a.ran })
+judged text n o Refused a f = inl (record { verdict = refused a.refusal; is = a.cause; does = (refl, a.says) })
+judged text n o Limit a f = inl (record { verdict = too_deep; is = a.deep; does = (refl, a.says) })
+judged text n o NotBuilt a f = inl (record { verdict = unbuilt a.place; is = a.unbuilt; does = (refl, a.says) })
+judged text n o WriteFault a f = absurd (f a.1)
+judged text n o Memory a f = inr refl
+judged text n o Absent a f = absurd a
+judged text n o ReadFault a f = absurd a
+judged text n o Usage a f = absurd a
 
-pub complete : OneTree → (call : Call) (status : Status) → Answered call status → IsComplete call status
-complete one call Returned a text steps tree g le n f = inl ((of_tree one call Returned text steps tree g a a.ends).status)
-complete one call Stopped a text steps tree g le n f = inl ((of_tree one call Stopped text steps tree g a a.ends).status)
-complete one call Fault a text steps tree g le n f = inl ((of_tree one call Fault text steps tree g a a.ends).status)
-complete one call StepsUsed a text steps tree g le n f = inl ((of_tree one call StepsUsed text steps tree g a a.ends).status)
-complete one call Memory a text steps tree g le n f = inr refl
-complete one call Refused a text steps tree g le n f =
-    let v = ap violations (same_tree one call Refused text steps tree g a) ∙ n in
-    absurd (no_violation a.tree a.ends.fault v a.ends.least)
-complete one call NotBuilt a text steps tree g le n f =
-    let t = same_text call text a.text steps a.steps tree g a.asks in
-    absurd (no_fault a.text tree (subst (λ x. Reads x tree) t g.reads) (a.place, a.fault))
-complete one call Limit a text steps tree g le n f =
-    let h = at_name call text steps tree g (λ o. (x : List ℕ) × (o ≡ Some x) × (262144 < length x)) a.asks a.asked a.told in
+of_verdict : Laws → (text : List ℕ) (n : ℕ) (o : Outputs) (status : Status) (v : Verdict) → IsVerdict text v → Judged text n o status ⊎ (status ≡ Memory) → Does text v n o status ⊎ (status ≡ Memory)
+of_verdict laws text n o status v c (inl j) = inl (subst (λ w. Does text w n o status) (one_verdict laws text j.verdict v j.is c) j.does)
+of_verdict laws text n o status v c (inr e) = inr e
+
+due : Laws → (call : Call) (status : Status) (text : List ℕ) (steps : ℕ) (v : Verdict) → Given call text steps → IsVerdict text v → Faultless call → Reaches call status → Does text v steps call.outputs status ⊎ (status ≡ Memory)
+due laws call status text steps v g c f r = of_verdict laws text steps call.outputs status v c (judged text steps call.outputs status (of_given call status text steps g r) f.outputs)
+
+pub exact : Laws → (call : Call) (status : Status) → Answered call status → IsExact call status
+exact laws call Returned a text steps v g le c f = due laws call Returned text steps v g c f a
+exact laws call Stopped a text steps v g le c f = due laws call Stopped text steps v g c f a
+exact laws call Fault a text steps v g le c f = due laws call Fault text steps v g c f a
+exact laws call StepsUsed a text steps v g le c f = due laws call StepsUsed text steps v g c f a
+exact laws call Refused a text steps v g le c f = due laws call Refused text steps v g c f a
+exact laws call NotBuilt a text steps v g le c f = due laws call NotBuilt text steps v g c f a
+exact laws call Memory a text steps v g le c f = inr refl
+exact laws call Limit (inr a) text steps v g le c f = due laws call Limit text steps v g c f a
+exact laws call Limit (inl a) text steps v g le c f =
+    let h = at_name call text steps g (λ o. (x : List ℕ) × (o ≡ Some x) × (262144 < length x)) a.asks a.asked a.told in
     let e : text ≡ h.0 = let q = h.1 in cc in
     let l = ap length e in
     absurd (omega (arith, h.2, l, le))
-complete one call Absent a text steps tree g le n f =
-    let h = at_name call text steps tree g (λ o. o ≡ None) a.asks a.asked a.told in
+exact laws call Absent a text steps v g le c f =
+    let h = at_name call text steps g (λ o. o ≡ None) a.asks a.asked a.told in
     absurd (cc)
-complete one call ReadFault a text steps tree g le n f = absurd (f.read a.0)
-complete one call WriteFault (inl w) text steps tree g le n f = absurd (f.outputs w.1)
-complete one call WriteFault (inr w) text steps tree g le n f = absurd (f.outputs w.ends.1)
-complete one call Usage a text steps tree g le n f = let h = a.0 in let k = g.asked in absurd (cc)
+exact laws call ReadFault a text steps v g le c f = absurd (f.read a.0)
+exact laws call WriteFault (inl w) text steps v g le c f = absurd (f.outputs w.1)
+exact laws call WriteFault (inr w) text steps v g le c f = due laws call WriteFault text steps v g c f w
+exact laws call Usage a text steps v g le c f = let h = a.0 in let k = g.asked in absurd (cc)

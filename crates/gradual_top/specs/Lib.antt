@@ -1,4 +1,5 @@
 pub mod Requests
 pub mod Words
+pub mod Source
 pub mod Lines
 pub mod Outcomes

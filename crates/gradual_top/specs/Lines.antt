@@ -12,17 +12,25 @@ use Rattle.gc0_base.specs.declared.site.Ending.{Ending}
 use Rattle.gc0_base.specs.declared.site.Ending.TheVariants as ending
 use Rattle.gc0_tree.specs.Tree.{Function, Program}
 use Rattle.gc0_tree.specs.Sites.{token_place}
+use Rattle.c0_lex.specs.declared.fault.LexFault.{LexFault}
+use Rattle.c0_lex.specs.declared.fault.LexFault.TheVariants as lex
+use Rattle.c0_parse.specs.declared.fault.ParseFault.{ParseFault}
+use Rattle.c0_parse.specs.declared.fault.ParseFault.TheVariants as parse
 use Rattle.c0_types.specs.declared.violation.TypeFault.{TypeFault}
 use Rattle.c0_types.specs.declared.violation.TypeFault.TheVariants as fault
 use Rattle.gradual_top.specs.declared.status.Status.{Status}
 use Rattle.gradual_top.specs.declared.status.Status.TheVariants.{Returned, Stopped, Fault, StepsUsed, Refused, Limit, Absent, ReadFault, WriteFault, Memory, NotBuilt, Usage}
 use Rattle.gradual_top.specs.Words.{word_at}
+use Rattle.gradual_top.specs.Source.{Refusal, lexical, parsing, typing}
 
 abbrev pub usage_line : List ℕ
 usage_line = codes "usage: run, full, check, explain, code, compare or self\n"
 
 abbrev pub source_line : List ℕ
 source_line = codes "limit source\n"
+
+abbrev pub nesting_line : List ℕ
+nesting_line = codes "limit nesting\n"
 
 abbrev pub read_fault_line : List ℕ
 read_fault_line = codes "read fault\n"
@@ -94,15 +102,51 @@ line_of text p (ending.Stop site) = let place = stop_place p site in place_line 
 line_of text p (ending.Fault f site) = place_line (codes "fault ") (stop_place p site) (fault_word f)
 line_of text p ending.StepsUsed = codes "steps used\n"
 
+-- a rule of the language is broken at a place
+abbrev pub refused_at : Place → List ℕ → List ℕ
+refused_at p cause = place_line (codes "refused ") p cause
+
+-- the line of a lexical fault
+abbrev pub lexical_line : LexFault → List ℕ
+lexical_line (lex.BadByte p) = refused_at p (codes "bad byte")
+lexical_line (lex.BadNumber p) = refused_at p (codes "bad number")
+lexical_line (lex.BadEscape p) = refused_at p (codes "bad escape")
+lexical_line (lex.OpenComment p) = refused_at p (codes "open comment")
+lexical_line (lex.OpenString p) = refused_at p (codes "open string")
+lexical_line (lex.NestedAnnotation p) = refused_at p (codes "nested annotation")
+lexical_line lex.Memory = []
+
+-- the line of a fault of the parser; a text that is too deep passes a limit
+abbrev pub parse_line : ParseFault → List ℕ
+parse_line (parse.Syntax p) = refused_at p (codes "syntax")
+parse_line (parse.TooDeep p) = nesting_line
+parse_line (parse.ContractOnPrototype p) = refused_at p (codes "contract on prototype")
+parse_line (parse.DeepRead p) = refused_at p (codes "deep read")
+parse_line parse.Memory = []
+
+-- the status of a text with a fault of the parser
+abbrev pub parse_status : ParseFault → Status
+parse_status (parse.Syntax p) = Refused
+parse_status (parse.TooDeep p) = Limit
+parse_status (parse.ContractOnPrototype p) = Refused
+parse_status (parse.DeepRead p) = Refused
+parse_status parse.Memory = Memory
+
 -- the line of a violation of the typing rules
-abbrev pub refused_line : TypeFault → List ℕ
-refused_line (fault.Unknown p) = place_line (codes "refused ") p (codes "unknown")
-refused_line (fault.Twice p) = place_line (codes "refused ") p (codes "twice")
-refused_line (fault.WrongType p) = place_line (codes "refused ") p (codes "wrong type")
-refused_line (fault.WrongCount p) = place_line (codes "refused ") p (codes "wrong count")
-refused_line (fault.AssignedInEnsures p) = place_line (codes "refused ") p (codes "assigned in ensures")
-refused_line (fault.NoMain p) = place_line (codes "refused ") p (codes "no main")
-refused_line fault.Memory = []
+abbrev pub type_line : TypeFault → List ℕ
+type_line (fault.Unknown p) = refused_at p (codes "unknown")
+type_line (fault.Twice p) = refused_at p (codes "twice")
+type_line (fault.WrongType p) = refused_at p (codes "wrong type")
+type_line (fault.WrongCount p) = refused_at p (codes "wrong count")
+type_line (fault.AssignedInEnsures p) = refused_at p (codes "assigned in ensures")
+type_line (fault.NoMain p) = refused_at p (codes "no main")
+type_line fault.Memory = []
+
+-- the line of a refusal
+abbrev pub refusal_line : Refusal → List ℕ
+refusal_line (lexical f) = lexical_line f
+refusal_line (parsing f) = parse_line f
+refusal_line (typing f) = type_line f
 
 -- the status of an ending
 abbrev pub status_of : Ending → Status

@@ -1,23 +1,19 @@
 -- What each answer of the program says: its cause, and what was written. This project's own.
 use Rattle.std.specs.Prelude.{◌≡◌, ◌⊎◌, ℕ, ◌<◌, ◌≤◌, List, [], length, Option, Some, None, IfSome}
-use Rattle.std.specs.Option.{option_map}
 use Rattle.std.specs.Io.KnownBytes.{append_known}
 use Rattle.gc0_io.specs.Causes.{Rose}
 use Rattle.gc0_io.specs.Bytes.{TakesFront}
 use Rattle.gc0_io.specs.Fetching.{Contents}
 use Rattle.gc0_base.specs.declared.place.Place.{Place}
-use Rattle.c0_parse.specs.Tree.{ProgramTree}
-use Rattle.c0_parse.specs.Reads.{Reads, FirstFault}
-use Rattle.c0_parse.specs.Tokens.{tokens_of}
-use Rattle.c0_types.specs.declared.violation.TypeFault.{TypeFault}
-use Rattle.c0_types.specs.Violations.{least_of, fault_of}
-use Rattle.c0_types.specs.Rules.{violations}
+use Rattle.built_text.specs.Tree.{ProgramTree}
+use Rattle.gc0_tree.specs.Tree.{Program}
 use Rattle.c0_types.specs.Resolved.{resolved}
 use Rattle.c0_meaning.specs.Running.{Seen, meaning}
 use Rattle.gradual_top.specs.declared.status.Status.{Status}
 use Rattle.gradual_top.specs.declared.status.Status.TheVariants.{Returned, Stopped, Fault, StepsUsed, Refused, Limit, Absent, ReadFault, WriteFault, Memory, NotBuilt, Usage}
 use Rattle.gradual_top.specs.Requests.{Asked, asked_in}
-use Rattle.gradual_top.specs.Lines.{usage_line, source_line, read_fault_line, absent_line, not_built_line, refused_line, line_of, status_of}
+use Rattle.gradual_top.specs.Source.{IsSmall, Refusal, IsRefused, IsTooDeep, IsSoundUnbuilt, IsRunnable, Verdict, refused, too_deep, unbuilt, runs, IsVerdict}
+use Rattle.gradual_top.specs.Lines.{usage_line, source_line, nesting_line, read_fault_line, absent_line, not_built_line, refusal_line, line_of, status_of}
 
 -- the outputs before and after a call: their counts of faults, and the bytes that were taken, where they are told
 pub record Outputs : Type 0 where
@@ -49,33 +45,67 @@ pub record Refuses (outputs : Outputs) (line : List ℕ) : Type 0 where
 abbrev pub OutputFailed : Outputs → Type 0
 OutputFailed o = Rose o.out_before o.out_after ⊎ Rose o.err_before o.err_after
 
--- what the program of a tree does with so many steps; the input isn't read yet
-abbrev pub run_of : ProgramTree → ℕ → Seen
-run_of tree n = meaning (resolved tree) [] n
+-- what a program does with so many steps; the input isn't read yet
+abbrev pub run_of : Program → ℕ → Seen
+run_of p n = meaning p [] n
 
 -- the program came to an ending, which has this status: its output and the line of its ending were written
-pub record Ran (text : List ℕ) (tree : ProgramTree) (n : ℕ) (outputs : Outputs) (answer : Status) : Type 0 where
-  pub typed : violations tree ≡ []
-  pub out : outputs.out_new ≡ append_known outputs.out_old (run_of tree n).0
-  pub err : outputs.err_new ≡ append_known outputs.err_old (line_of text (resolved tree) (run_of tree n).1)
-  pub status : answer ≡ status_of (run_of tree n).1
-
--- a typing rule is broken, and this is the first violation
-pub record Mistyped (tree : ProgramTree) (outputs : Outputs) : Type 0 where
-  pub fault : TypeFault
-  pub least : option_map fault_of (least_of (violations tree)) ≡ Some fault
-  pub says : Refuses outputs (refused_line fault)
+pub record Ran (text : List ℕ) (p : Program) (n : ℕ) (outputs : Outputs) (answer : Status) : Type 0 where
+  pub out : outputs.out_new ≡ append_known outputs.out_old (run_of p n).0
+  pub err : outputs.err_new ≡ append_known outputs.err_old (line_of text p (run_of p n).1)
+  pub status : answer ≡ status_of (run_of p n).1
 
 -- what the end of a program's run says of what was written and of the faults
-abbrev pub Ends : List ℕ → ProgramTree → ℕ → Outputs → Status → Type 0
-Ends text tree n o Returned = Ran text tree n o Returned
-Ends text tree n o Stopped = Ran text tree n o Stopped
-Ends text tree n o Fault = Ran text tree n o Fault
-Ends text tree n o StepsUsed = Ran text tree n o StepsUsed
-Ends text tree n o Refused = Mistyped tree o
-Ends text tree n o WriteFault = TakesFront o.out_old o.out_new (run_of tree n).0 × OutputFailed o
-Ends text tree n o Memory = TakesFront o.out_old o.out_new (run_of tree n).0
-Ends text tree n o status = ⊥
+abbrev pub Ends : List ℕ → Program → ℕ → Outputs → Status → Type 0
+Ends text p n o Returned = Ran text p n o Returned
+Ends text p n o Stopped = Ran text p n o Stopped
+Ends text p n o Fault = Ran text p n o Fault
+Ends text p n o StepsUsed = Ran text p n o StepsUsed
+Ends text p n o WriteFault = TakesFront o.out_old o.out_new (run_of p n).0 × OutputFailed o
+Ends text p n o Memory = TakesFront o.out_old o.out_new (run_of p n).0
+Ends text p n o status = ⊥
+
+-- the text has a tree whose program was run to an ending of this status
+pub record IsRun (text : List ℕ) (n : ℕ) (outputs : Outputs) (answer : Status) : Type 0 where
+  pub tree : ProgramTree
+  pub runnable : IsRunnable text tree
+  pub ran : Ran text (resolved tree) n outputs answer
+
+-- the text has a tree whose program was begun, and `out` took a front of what it writes
+pub record IsBegun (text : List ℕ) (n : ℕ) (outputs : Outputs) : Type 0 where
+  pub tree : ProgramTree
+  pub runnable : IsRunnable text tree
+  pub front : TakesFront outputs.out_old outputs.out_new (run_of (resolved tree) n).0
+
+-- the text is refused, and this is its first fault
+pub record SaysRefused (text : List ℕ) (outputs : Outputs) : Type 0 where
+  pub refusal : Refusal
+  pub cause : IsRefused text refusal
+  pub says : Refuses outputs (refusal_line refusal)
+
+-- each tree of the text is too deep
+pub record SaysTooDeep (text : List ℕ) (outputs : Outputs) : Type 0 where
+  pub deep : IsTooDeep text
+  pub says : Refuses outputs nesting_line
+
+-- the text has a sound tree and is none of the grammar that is built so far, as is first seen here
+pub record SaysUnbuilt (text : List ℕ) (outputs : Outputs) : Type 0 where
+  pub place : Place
+  pub unbuilt : IsSoundUnbuilt text place
+  pub says : Refuses outputs (not_built_line place)
+
+-- what an answer says of a text that was fetched
+abbrev pub TextAnswered : List ℕ → ℕ → Outputs → Status → Type 0
+TextAnswered text n o Returned = IsRun text n o Returned
+TextAnswered text n o Stopped = IsRun text n o Stopped
+TextAnswered text n o Fault = IsRun text n o Fault
+TextAnswered text n o StepsUsed = IsRun text n o StepsUsed
+TextAnswered text n o Refused = SaysRefused text o
+TextAnswered text n o Limit = SaysTooDeep text o
+TextAnswered text n o NotBuilt = SaysUnbuilt text o
+TextAnswered text n o WriteFault = ((o.out_new ≡ o.out_old) ⊎ IsBegun text n o) × OutputFailed o
+TextAnswered text n o Memory = (o.out_new ≡ o.out_old) ⊎ IsBegun text n o
+TextAnswered text n o status = ⊥
 
 -- the words name a file that has this text, and a number of steps
 pub record Asks (call : Call) (text : List ℕ) (steps : ℕ) : Type 0 where
@@ -83,14 +113,12 @@ pub record Asks (call : Call) (text : List ℕ) (steps : ℕ) : Type 0 where
   pub asked : asked_in call.words ≡ Some (record { steps = steps; file = name })
   pub told : IfSome call.files (λ files. files name ≡ Some text)
 
--- the program of the file was reached: its end is this
+-- the text of the file was reached: this is what the answer says of it
 pub record Reaches (call : Call) (status : Status) : Type 0 where
   pub text : List ℕ
   pub steps : ℕ
-  pub tree : ProgramTree
   pub asks : Asks call text steps
-  pub reads : Reads text tree
-  pub ends : Ends text tree steps call.outputs status
+  pub answer : TextAnswered text steps call.outputs status
 
 -- the file is not there
 pub record IsAbsent (call : Call) : Type 0 where
@@ -106,15 +134,6 @@ pub record IsTooLong (call : Call) : Type 0 where
   pub told : IfSome call.files (λ files. (text : List ℕ) × (files asks.file ≡ Some text) × (262144 < length text))
   pub says : Refuses call.outputs source_line
 
--- the text is none of the grammar, and this is the place of the first token that shows it
-pub record IsNotBuilt (call : Call) : Type 0 where
-  pub text : List ℕ
-  pub steps : ℕ
-  pub place : Place
-  pub asks : Asks call text steps
-  pub fault : FirstFault (tokens_of text) place
-  pub says : Refuses call.outputs (not_built_line place)
-
 -- What an answer says. After WriteFault and Memory, `out` took nothing, or a front of what is
 -- defined; after a refusal it took nothing.
 abbrev pub Answered : Call → Status → Type 0
@@ -123,8 +142,8 @@ Answered call Stopped = Reaches call Stopped
 Answered call Fault = Reaches call Fault
 Answered call StepsUsed = Reaches call StepsUsed
 Answered call Refused = Reaches call Refused
-Answered call NotBuilt = IsNotBuilt call
-Answered call Limit = IsTooLong call
+Answered call NotBuilt = Reaches call NotBuilt
+Answered call Limit = IsTooLong call ⊎ Reaches call Limit
 Answered call Absent = IsAbsent call
 Answered call ReadFault = Rose call.read_before call.read_after × Refuses call.outputs read_fault_line
 Answered call WriteFault = ((call.outputs.out_new ≡ call.outputs.out_old) × OutputFailed call.outputs) ⊎ Reaches call WriteFault
@@ -144,28 +163,34 @@ IsEnding Fault = Unit {0}
 IsEnding StepsUsed = Unit {0}
 IsEnding status = ⊥
 
--- the words name this file, which is told and has this text, and the text has this tree
-pub record Given (call : Call) (text : List ℕ) (steps : ℕ) (tree : ProgramTree) : Type 0 where
+-- the words name this file, which is told and has this text
+pub record Given (call : Call) (text : List ℕ) (steps : ℕ) : Type 0 where
   pub files : Contents
   pub name : List ℕ
   pub told : call.files ≡ Some files
   pub asked : asked_in call.words ≡ Some (record { steps = steps; file = name })
   pub content : files name ≡ Some text
-  pub reads : Reads text tree
 
 -- The run theorem: where the run came to its ending, its output and the line of the ending were
 -- written, and nothing else, and the status is that of the ending.
 abbrev pub IsMeant : Call → Status → Type 0
 IsMeant call status =
-    (text : List ℕ) (steps : ℕ) (tree : ProgramTree) → Given call text steps tree → IsEnding status → Ran text tree steps call.outputs status
+    (text : List ℕ) (steps : ℕ) (tree : ProgramTree) → Given call text steps → IsSmall text tree → IsEnding status → Ran text (resolved tree) steps call.outputs status
 
 -- no count of faults rose
 pub record Faultless (call : Call) : Type 0 where
   pub read : Rose call.read_before call.read_after → ⊥
   pub outputs : OutputFailed call.outputs → ⊥
 
--- A text within the limit, with a tree that breaks no typing rule, is run to its ending.
-abbrev pub IsComplete : Call → Status → Type 0
-IsComplete call status =
-    (text : List ℕ) (steps : ℕ) (tree : ProgramTree) → Given call text steps tree → length text ≤ 262144 → violations tree ≡ [] → Faultless call →
-    (status ≡ status_of (run_of tree steps).1) ⊎ (status ≡ Memory)
+-- what is done for a verdict: the answer, and what is written
+abbrev pub Does : List ℕ → Verdict → ℕ → Outputs → Status → Type 0
+Does text (refused r) n o answer = (answer ≡ Refused) × Refuses o (refusal_line r)
+Does text too_deep n o answer = (answer ≡ Limit) × Refuses o nesting_line
+Does text (unbuilt at) n o answer = (answer ≡ NotBuilt) × Refuses o (not_built_line at)
+Does text (runs tree) n o answer = Ran text (resolved tree) n o answer
+
+-- Where no count of faults rose, a text within the limit gets exactly what its verdict says, unless memory runs out.
+abbrev pub IsExact : Call → Status → Type 0
+IsExact call status =
+    (text : List ℕ) (steps : ℕ) (verdict : Verdict) → Given call text steps → length text ≤ 262144 → IsVerdict text verdict → Faultless call →
+    Does text verdict steps call.outputs status ⊎ (status ≡ Memory)

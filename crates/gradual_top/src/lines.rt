@@ -1,8 +1,10 @@
-ghost use Rattle.std.specs.Prelude.{◌≡◌, ◌++◌, OnOk, IfOk, codes};
+ghost use Rattle.std.specs.Prelude.{◌≡◌, ◌≢◌, ◌++◌, OnOk, IfOk, codes};
 ghost use Rattle.gc0_tree.specs.Views.{program_view};
-ghost use Rattle.gradual_top.specs.Lines.{place_text, place_line, fault_word, what_of, function_name, stop_place, or_nowhere, line_of, absent_line, not_built_line, refused_line};
+ghost use Rattle.gradual_top.specs.Lines.{place_text, place_line, fault_word, what_of, function_name, stop_place, or_nowhere, line_of, absent_line, not_built_line, refused_at, lexical_line, parse_line, type_line};
 
 use crate::word::word_at;
+use c0_lex::LexFault;
+use c0_parse::ParseFault;
 use c0_types::TypeFault;
 use gc0_base::{Ending, Kind, Place, Site, TrapKind};
 use gc0_tree::{Program, place_of};
@@ -51,21 +53,62 @@ pub fn not_built_text(alloc: Global, place: Place) -> Result<Vec<u8>, AllocError
     Ok(format!(in alloc; "not built {line}:{column}\n")?.into_bytes())
 }
 
-/// The line of a violation of the typing rules. Want of memory is none, and has no line.
-pub fn refused_text(alloc: Global, fault: TypeFault) -> Result<Vec<u8>, AllocError>
-    ensures { IfOk result (λ line. line.items ≡ refused_line fault) }
+/// The line of a lexical fault. Want of memory is none, and has no line: it is handed on.
+pub fn lexical_text(alloc: Global, fault: LexFault) -> Result<Vec<u8>, AllocError>
+    ensures line { IfOk result (λ line. line.items ≡ lexical_line fault) }
+    ensures fault { IfOk result (λ _. fault ≢ LexFault.Memory) }
 {
     match fault {
-        TypeFault::Unknown(place) => place_line(alloc, b"refused ", place, b"unknown"),
-        TypeFault::Twice(place) => place_line(alloc, b"refused ", place, b"twice"),
-        TypeFault::WrongType(place) => place_line(alloc, b"refused ", place, b"wrong type"),
-        TypeFault::WrongCount(place) => place_line(alloc, b"refused ", place, b"wrong count"),
-        TypeFault::AssignedInEnsures(place) => {
-            place_line(alloc, b"refused ", place, b"assigned in ensures")
-        }
-        TypeFault::NoMain(place) => place_line(alloc, b"refused ", place, b"no main"),
-        TypeFault::Memory => Ok(Vec::new(alloc)),
+        LexFault::BadByte(place) => refused_at(alloc, place, b"bad byte"),
+        LexFault::BadNumber(place) => refused_at(alloc, place, b"bad number"),
+        LexFault::BadEscape(place) => refused_at(alloc, place, b"bad escape"),
+        LexFault::OpenComment(place) => refused_at(alloc, place, b"open comment"),
+        LexFault::OpenString(place) => refused_at(alloc, place, b"open string"),
+        LexFault::NestedAnnotation(place) => refused_at(alloc, place, b"nested annotation"),
+        LexFault::Memory => Err(AllocError),
     }
+}
+
+/// The line of a fault of the parser. Want of memory is none, and has no line: it is handed on.
+pub fn parse_text(alloc: Global, fault: ParseFault) -> Result<Vec<u8>, AllocError>
+    ensures line { IfOk result (λ line. line.items ≡ parse_line fault) }
+    ensures fault { IfOk result (λ _. fault ≢ ParseFault.Memory) }
+{
+    match fault {
+        ParseFault::Syntax(place) => refused_at(alloc, place, b"syntax"),
+        ParseFault::TooDeep(_) => Vec::from_slice(alloc, b"limit nesting\n"),
+        ParseFault::ContractOnPrototype(place) => refused_at(
+            alloc,
+            place,
+            b"contract on prototype",
+        ),
+        ParseFault::DeepRead(place) => refused_at(alloc, place, b"deep read"),
+        ParseFault::Memory => Err(AllocError),
+    }
+}
+
+/// The line of a violation of the typing rules. Want of memory is none, and has no line: it is
+/// handed on.
+pub fn type_text(alloc: Global, fault: TypeFault) -> Result<Vec<u8>, AllocError>
+    ensures line { IfOk result (λ line. line.items ≡ type_line fault) }
+    ensures fault { IfOk result (λ _. fault ≢ TypeFault.Memory) }
+{
+    match fault {
+        TypeFault::Unknown(place) => refused_at(alloc, place, b"unknown"),
+        TypeFault::Twice(place) => refused_at(alloc, place, b"twice"),
+        TypeFault::WrongType(place) => refused_at(alloc, place, b"wrong type"),
+        TypeFault::WrongCount(place) => refused_at(alloc, place, b"wrong count"),
+        TypeFault::AssignedInEnsures(place) => refused_at(alloc, place, b"assigned in ensures"),
+        TypeFault::NoMain(place) => refused_at(alloc, place, b"no main"),
+        TypeFault::Memory => Err(AllocError),
+    }
+}
+
+// The line of a rule that is broken at a place.
+fn refused_at(alloc: Global, place: Place, cause: &[u8]) -> Result<Vec<u8>, AllocError>
+    ensures { IfOk result (λ line. line.items ≡ refused_at place cause.now) }
+{
+    place_line(alloc, b"refused ", place, cause)
 }
 
 // A line of a word, a place, and what there is to say of it.

@@ -1,22 +1,26 @@
-ghost use Rattle.std.specs.Prelude.{◌≡◌, ◌≤◌, ◌⊎◌, [], map, string_bytes, IfOk, IfErr};
+ghost use Rattle.std.specs.Prelude.{◌≡◌, ◌≤◌, ◌⊎◌, [], length, map, string_bytes, IfOk, IfErr};
 ghost use Rattle.gc0_io.specs.Causes.{Rose};
-ghost use Rattle.c0_parse.specs.Reads.{Reads};
-ghost use Rattle.c0_parse.specs.Views.{program_view};
+ghost use Rattle.gc0_tree.specs.Views.{program_view};
+ghost use Rattle.stack_code.specs.Built.{IsBuilt};
 ghost use Rattle.std.specs.Io.KnownBytes.{append_known};
 ghost use Rattle.gc0_io.specs.Bytes.{TakesFront};
 ghost use Rattle.stack_code.specs.Views.{code_view};
 ghost use Rattle.stack_code.specs.Machine.{run_code};
 ghost use Rattle.stack_runner.specs.Built.{IsBuiltCode};
-ghost use Rattle.gradual_top.specs.Lines.{status_of};
-ghost use Rattle.gradual_top.specs.Outcomes.{Answered, IsMeant, IsComplete, Ends, Says};
+ghost use Rattle.gradual_top.specs.Lines.{parse_status, status_of};
+ghost use Rattle.gradual_top.specs.Outcomes.{Answered, TextAnswered, IsMeant, IsExact, Ends, Says};
 
-use crate::lines::{absent_text, ending_text, not_built_text, refused_text};
+use crate::lines::{absent_text, ending_text, lexical_text, not_built_text, parse_text, type_text};
 use crate::request::request_of;
 use crate::status::Status;
-use c0_parse::{ReadFault, one_tree, read};
-use c0_types::{TypeFault, resolve};
+use built_text::{ReadFault, read};
+use c0_grammar::one_tree;
+use c0_lex::{never_both, one_fault, one_list, tokens};
+use c0_parse::{ParseFault, parse};
+use c0_types::resolve;
 use gc0_base::{Ending, Limits};
 use gc0_io::{Fetched, Files, Sink, Source, write_all};
+use gc0_tree::Program;
 use stack_code::{Code, generate};
 use stack_runner::{Machine, RunFault, built_programs_have_built_code};
 use std::alloc::{AllocError, Global};
@@ -53,9 +57,8 @@ pub fn gradual<F: Files, S: Source, O: Sink, E: Sink>(
       read_after = F.faults files.new;
       outputs = record { out_before = O.faults out.old; out_after = O.faults out.new; err_before = E.faults err.old; err_after = E.faults err.new; out_old = O.taken out.old; out_new = O.taken out.new; err_old = E.taken err.old; err_new = E.taken err.new };
     }) result }
-    // Where no device fails, a text that has a tree which breaks no typing rule is run to its
-    // ending, unless memory runs out.
-    ensures complete { IsComplete (record {
+    // Where no device fails, a text gets exactly what it is due: its first fault, or its run.
+    ensures exact { IsExact (record {
       words = map string_bytes words.now;
       files = F.contents files.old;
       read_before = F.faults files.old;
@@ -66,7 +69,12 @@ pub fn gradual<F: Files, S: Source, O: Sink, E: Sink>(
     ensures out_later { O.faults out.old ≤ O.faults out.new }
     ensures err_later { E.faults err.old ≤ E.faults err.new }
 {
+    one_list();
+    one_fault();
+    never_both();
     one_tree();
+    built_text::one_tree();
+    built_text::one_fault();
     serve(alloc, words, files, out, err)
 }
 
@@ -100,37 +108,61 @@ fn serve<F: Files, O: Sink, E: Sink>(
         Fetched::Failed => return say(err, b"read fault\n", Status::ReadFault),
         Fetched::Memory => return say(err, b"memory\n", Status::Memory),
     };
-    let parsed = match read(alloc, text.as_slice()) {
+    serve_text(alloc, text.as_slice(), request.steps(), out, err)
+}
+
+// Reads the program of a text and runs it, or says why it can't be run.
+fn serve_text<O: Sink, E: Sink>(
+    alloc: Global,
+    text: &[u8],
+    steps: u64,
+    out: &mut O,
+    err: &mut E,
+) -> Status
+    requires short { length text.now ≤ Limits.SOURCE }
+    requires few { steps ≤ 10000000 }
+    ensures answer { TextAnswered text.now steps (record { out_before = O.faults out.old; out_after = O.faults out.new; err_before = E.faults err.old; err_after = E.faults err.new; out_old = O.taken out.old; out_new = O.taken out.new; err_old = E.taken err.old; err_new = E.taken err.new }) result }
+    ensures out_later { O.faults out.old ≤ O.faults out.new }
+    ensures err_later { E.faults err.old ≤ E.faults err.new }
+{
+    let tokens = match tokens(alloc, text) {
+        Ok(tokens) => tokens,
+        Err(fault) => return say_text(err, lexical_text(alloc, fault), Status::Refused),
+    };
+    match parse(alloc, &tokens) {
+        Ok(_) => {}
+        Err(fault) => return say_text(err, parse_text(alloc, fault), parse_status(fault)),
+    }
+    let parsed = match read(alloc, &tokens) {
         Ok(parsed) => parsed,
         Err(ReadFault::NotBuilt(place)) => {
             return say_text(err, not_built_text(alloc, place), Status::NotBuilt);
         }
         Err(ReadFault::Memory) => return say(err, b"memory\n", Status::Memory),
     };
-    run_text(alloc, text.as_slice(), &parsed, request.steps(), out, err)
+    let program = match resolve(alloc, &parsed) {
+        Ok(program) => program,
+        Err(fault) => return say_text(err, type_text(alloc, fault), Status::Refused),
+    };
+    run_program(alloc, text, &program, steps, out, err)
 }
 
-// Runs the program of a text, and writes the line of its end.
-fn run_text<O: Sink, E: Sink>(
+// Runs a program, and writes the line of its end.
+fn run_program<O: Sink, E: Sink>(
     alloc: Global,
     text: &[u8],
-    parsed: &c0_parse::Program,
+    program: &Program,
     steps: u64,
     out: &mut O,
     err: &mut E,
 ) -> Status
-    requires reads { Reads text.now (program_view parsed.now) }
+    requires built { IsBuilt (program_view program.now) }
     requires few { steps ≤ 10000000 }
-    ensures ends { Ends text.now (program_view parsed.now) steps (record { out_before = O.faults out.old; out_after = O.faults out.new; err_before = E.faults err.old; err_after = E.faults err.new; out_old = O.taken out.old; out_new = O.taken out.new; err_old = E.taken err.old; err_new = E.taken err.new }) result }
+    ensures ends { Ends text.now (program_view program.now) steps (record { out_before = O.faults out.old; out_after = O.faults out.new; err_before = E.faults err.old; err_after = E.faults err.new; out_old = O.taken out.old; out_new = O.taken out.new; err_old = E.taken err.old; err_new = E.taken err.new }) result }
     ensures out_later { O.faults out.old ≤ O.faults out.new }
     ensures err_later { E.faults err.old ≤ E.faults err.new }
 {
-    let program = match resolve(alloc, parsed) {
-        Ok(program) => program,
-        Err(TypeFault::Memory) => return say(err, b"memory\n", Status::Memory),
-        Err(fault) => return say_text(err, refused_text(alloc, fault), Status::Refused),
-    };
-    let code = match generate(alloc, &program) {
+    let code = match generate(alloc, program) {
         Ok(code) => code,
         Err(_) => return say(err, b"memory\n", Status::Memory),
     };
@@ -138,7 +170,7 @@ fn run_text<O: Sink, E: Sink>(
     match run_code(alloc, &code, steps, out) {
         Ok(ending) => say_text(
             err,
-            ending_text(alloc, text, &program, ending),
+            ending_text(alloc, text, program, ending),
             status_of(ending),
         ),
         Err(RunFault::Write) => say(err, b"write fault\n", Status::WriteFault),
@@ -172,6 +204,16 @@ fn status_of(ending: Ending) -> Status
         Ending::Stop(_) => Status::Stopped,
         Ending::Fault(_, _) => Status::Fault,
         Ending::StepsUsed => Status::StepsUsed,
+    }
+}
+
+fn parse_status(fault: ParseFault) -> Status
+    ensures { result ≡ parse_status fault }
+{
+    match fault {
+        ParseFault::TooDeep(_) => Status::Limit,
+        ParseFault::Memory => Status::Memory,
+        _ => Status::Refused,
     }
 }
 

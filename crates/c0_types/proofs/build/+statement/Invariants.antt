@@ -1,5 +1,5 @@
 use Rattle.std.proofs.Common.{◌≡◌, drop}
-use Rattle.c0_parse.specs.Views.{stmts_view}
+use Rattle.built_text.specs.Views.{stmts_view}
 use Rattle.c0_types.specs.Scopes.{functions_view}
 use Rattle.c0_types.specs.Resolved.{stmts_tree, all_behind}
 use Rattle.c0_types.proofs.Fronts.{stmts_before}

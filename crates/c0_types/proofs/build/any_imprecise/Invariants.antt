@@ -1,5 +1,5 @@
 use Rattle.std.proofs.Common.{◌≡◌, drop}
-use Rattle.c0_parse.specs.Views.{notes_view}
+use Rattle.built_text.specs.Views.{notes_view}
 use Rattle.c0_types.specs.Resolved.{any_imprecise}
 use Rattle.c0_types.proofs.build.any_imprecise.Given as goal
 

@@ -1,5 +1,5 @@
 use Rattle.std.proofs.Common.{◌≡◌, drop}
-use Rattle.c0_parse.specs.Views.{exprs_view}
+use Rattle.built_text.specs.Views.{exprs_view}
 use Rattle.c0_types.specs.Resolved.{exprs_tree}
 use Rattle.c0_types.proofs.Fronts.{trees_before}
 use Rattle.c0_types.proofs.build.expressions.Given as goal

@@ -1,5 +1,5 @@
 use Rattle.std.proofs.Common.{◌≡◌, drop}
-use Rattle.c0_parse.specs.Views.{clauses_view}
+use Rattle.built_text.specs.Views.{clauses_view}
 use Rattle.c0_types.specs.Resolved.{notes_of, are_none}
 use Rattle.c0_types.proofs.build.has_none.Given as goal
 

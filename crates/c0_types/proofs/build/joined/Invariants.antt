@@ -1,5 +1,5 @@
 use Rattle.std.proofs.Common.{◌≡◌, drop}
-use Rattle.c0_parse.specs.Views.{notes_view}
+use Rattle.built_text.specs.Views.{notes_view}
 use Rattle.gc0_tree.specs.Tree.{no_parts}
 use Rattle.c0_types.specs.Resolved.{notes_values}
 use Rattle.c0_types.proofs.Fronts.{parts_before}

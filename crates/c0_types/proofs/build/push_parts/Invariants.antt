@@ -1,5 +1,5 @@
 use Rattle.std.proofs.Common.{◌≡◌, drop}
-use Rattle.c0_parse.specs.Views.{exprs_view}
+use Rattle.built_text.specs.Views.{exprs_view}
 use Rattle.gc0_tree.specs.Tree.{Conjuncts}
 use Rattle.c0_types.specs.Resolved.{values}
 use Rattle.c0_types.proofs.Fronts.{parts_before}

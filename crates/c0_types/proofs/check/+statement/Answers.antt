@@ -1,6 +1,6 @@
 use Rattle.std.proofs.Common.{◌≡◌, ◌∙◌, ◌∷◌, ap, sym, ◌+◌, drop}
 use Rattle.std.proofs.lemmas.List.{drop_more}
-use Rattle.c0_parse.specs.Views.{stmt_view}
+use Rattle.built_text.specs.Views.{stmt_view}
 use Rattle.c0_types.specs.Scopes.{functions_view}
 use Rattle.c0_types.proofs.Blocks.{outer_stays, least_step}
 use Rattle.c0_types.proofs.check.+statement.Goals as goal

@@ -1,5 +1,5 @@
 use Rattle.std.proofs.Common.{◌≡◌, ◌++◌, drop, List, fold}
-use Rattle.c0_parse.specs.Views.{stmts_view}
+use Rattle.built_text.specs.Views.{stmts_view}
 use Rattle.c0_types.specs.declared.scope.Local.{Local}
 use Rattle.c0_types.specs.Violations.{earlier}
 use Rattle.c0_types.specs.Scopes.{functions_view}

@@ -1,5 +1,5 @@
 use Rattle.std.proofs.Common.{◌≡◌, ◌&&◌, drop, fold}
-use Rattle.c0_parse.specs.Views.{exprs_view}
+use Rattle.built_text.specs.Views.{exprs_view}
 use Rattle.c0_types.specs.Violations.{earlier}
 use Rattle.c0_types.specs.Types.{arguments_fit}
 use Rattle.c0_types.specs.Rules.{arguments_violations}

@@ -1,5 +1,5 @@
 use Rattle.std.proofs.Common.{◌≡◌, drop, fold}
-use Rattle.c0_parse.specs.Views.{notes_view}
+use Rattle.built_text.specs.Views.{notes_view}
 use Rattle.c0_types.specs.Violations.{earlier}
 use Rattle.c0_types.specs.Rules.{notes_violations}
 use Rattle.c0_types.proofs.check.notes.Given as goal

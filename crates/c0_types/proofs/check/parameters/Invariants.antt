@@ -1,5 +1,5 @@
 use Rattle.std.proofs.Common.{◌≡◌, drop, fold}
-use Rattle.c0_parse.specs.Views.{clauses_view}
+use Rattle.built_text.specs.Views.{clauses_view}
 use Rattle.c0_types.specs.Violations.{earlier}
 use Rattle.c0_types.specs.Scopes.{parameters_scope}
 use Rattle.c0_types.specs.Rules.{parameter_violations}

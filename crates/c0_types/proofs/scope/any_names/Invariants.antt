@@ -1,5 +1,5 @@
 use Rattle.std.proofs.Common.{◌≡◌, drop}
-use Rattle.c0_parse.specs.Views.{exprs_view}
+use Rattle.built_text.specs.Views.{exprs_view}
 use Rattle.c0_types.specs.Scopes.{any_names}
 use Rattle.c0_types.proofs.scope.any_names.Given as goal
 

@@ -1,5 +1,5 @@
 use Rattle.std.proofs.Common.{◌≡◌, drop}
-use Rattle.c0_parse.specs.Views.{clauses_view}
+use Rattle.built_text.specs.Views.{clauses_view}
 use Rattle.c0_types.specs.Scopes.{ensures_names}
 use Rattle.c0_types.proofs.scope.ensures_names.Given as goal
 

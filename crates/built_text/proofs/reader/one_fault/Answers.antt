@@ -1,0 +1,5 @@
+use Rattle.built_text.proofs.Runs.{one_of_faults}
+use Rattle.built_text.proofs.reader.one_fault.Goals as goal
+
+pub returns : goal.returns
+returns c = one_of_faults

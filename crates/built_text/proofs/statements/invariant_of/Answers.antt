@@ -1,0 +1,10 @@
+use Rattle.std.proofs.Common.{false}
+use Rattle.built_text.specs.Plan.{noted}
+use Rattle.built_text.proofs.Failing.{along}
+use Rattle.built_text.proofs.statements.invariant_of.Goals as goal
+
+pub returns-in-Err-clause-reads : goal.returns-in-Err-clause-reads
+returns-in-Err-clause-reads c = λ next. c.in-Err.ensures.reads (λ at. noted false c.args.room at next)
+
+pub returns-clause-reads : goal.returns-clause-reads
+returns-clause-reads c = λ next. along _ _ _ _ (c.in-Ok.ensures.reads (λ at. noted false c.args.room at next)) (c.note.ensures.reads next)

@@ -1,0 +1,6 @@
+pub mod Tree
+pub mod Views
+pub mod Tokens
+pub mod Grammar
+pub mod Reads
+pub mod Plan

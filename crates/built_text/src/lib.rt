@@ -1,0 +1,21 @@
+//! Reads the tokens of a C0 program with functions, loops and contracts into its tree, in which
+//! names are not yet resolved.
+#![tactic(auto)]
+
+mod cursor;
+mod expressions;
+mod functions;
+mod reader;
+mod statements;
+#[cfg(test)]
+mod tests;
+mod token;
+mod tokens;
+mod tree;
+
+pub use reader::{one_fault, one_tree, read};
+pub use tokens::cut_ends_last;
+pub use tree::{
+    Call, Clause, ClauseKind, Expr, Formula, Function, Named, Note, Operator, Parameter, Program,
+    ReadFault, Right, Shape, Spot, Stmt, Typed, UnaryOperator,
+};

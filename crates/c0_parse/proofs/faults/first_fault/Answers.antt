@@ -1,0 +1,11 @@
+use Rattle.std.proofs.Common.{rules, ◌≡◌, ◌∙◌, ap, map, fold, None}
+use Rattle.parsed_tree.specs.Views.{item_view, program_view}
+use Rattle.c0_parse.specs.TreeFaults.{all_of, item_faults, tree_faults}
+use Rattle.c0_parse.specs.Causes.{earlier}
+use Rattle.c0_parse.proofs.Firsts.{first_found}
+use Rattle.c0_parse.proofs.faults.first_fault.Goals as goal
+
+pub loop-part-init : goal.loop-part-init
+loop-part-init c =
+    let h : c.as_slice-part-items.result.now ≡ c.args.parsed.now.items = search rules in
+    ap (λ is. fold earlier None (all_of item_faults (map item_view is))) h ∙ first_found (tree_faults (program_view c.args.parsed.now))

@@ -1,6 +1,0 @@
-use Rattle.std.proofs.Common.{◌≡◌, ◌+◌, drop}
-use Rattle.c0_parse.specs.Bytes.{word_length}
-use Rattle.c0_parse.proofs.lex.word_length.Given as goal
-
-abbrev pub invariant-loop-i : goal.invariant-loop-i
-invariant-loop-i l = word_length l.text ≡ l.i + word_length (drop l.i l.text)

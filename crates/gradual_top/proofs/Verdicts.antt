@@ -1,0 +1,184 @@
+-- A text has at most one verdict.
+use Rattle.std.proofs.Common.{◌≡◌, List, ℕ, [], ◌∷◌, ◌++◌, Option, Some, None, inl, inr, refl, sym, subst, ◌∙◌, ap, append_assoc}
+use Rattle.std.specs.Prelude.{◌⊎◌}
+use Rattle.std.specs.Option.{option_map}
+use Rattle.gc0_base.specs.declared.place.Place.{Place}
+use Rattle.c0_lex.specs.declared.fault.LexFault.{LexFault}
+use Rattle.c0_lex.specs.Texts.{Lexeme, HasTokens, HasFault, OneList, OneFault, NeverBoth}
+use Rattle.parsed_tree.specs.Tree.{ProgramTree}
+use Rattle.c0_grammar.specs.Tokens.{Token}
+use Rattle.c0_grammar.specs.Reads.{Reads, OneTree}
+use Rattle.c0_parse.specs.declared.fault.ParseFault.{ParseFault}
+use Rattle.c0_parse.specs.declared.fault.ParseFault.TheVariants as parse
+use Rattle.c0_parse.specs.TreeFaults.{TreeFault, contract_on_prototype, deep_read, tree_faults}
+use Rattle.c0_parse.specs.Causes.{ComesFirst, TreeHas, HasCause}
+use Rattle.c0_types.specs.declared.violation.TypeFault.{TypeFault}
+use Rattle.c0_types.specs.Violations.{least_of, fault_of}
+use Rattle.c0_types.specs.Rules.{violations}
+use Rattle.built_text.specs.Tree.{ProgramTree as SmallTree}
+use Rattle.built_text.specs.Grammar.{IsProgram}
+use Rattle.built_text.specs.Reads.{FirstFault, OneTree as OneSmallTree, OneFault as OneUnbuilt}
+use Rattle.gradual_top.specs.Source.{grammar_tokens, small_tokens, HasTree, HasParseFault, IsSound, HasTypeFault, Refusal, lexical, parsing, typing, IsRefused, IsTooDeep, IsSmall, IsUnbuilt, IsRunnable, Verdict, refused, too_deep, unbuilt, runs, IsSoundUnbuilt, IsVerdict}
+use Rattle.gradual_top.proofs.First.{First, of_syntax, of_deep, no_tree, one_place, not_both}
+
+-- the laws of the floors below
+pub record Laws : Type 0 where
+  pub lists : OneList
+  pub faults : OneFault
+  pub never : NeverBoth
+  pub trees : OneTree
+  pub small_trees : OneSmallTree
+  pub unbuilt : OneUnbuilt
+
+-- ---- trees
+pub same_tree : Laws → (text : List ℕ) (p q : SmallTree) → IsSmall text p → IsSmall text q → p ≡ q
+same_tree laws text p q a b =
+    let same = laws.lists text b.lexemes a.lexemes b.tokens a.tokens in
+    laws.small_trees (small_tokens a.lexemes) p q a.program (subst (λ l. IsProgram (small_tokens l) q) same b.program)
+
+-- the tokens of the one are those of the other
+read_by : Laws → (text : List ℕ) (f : ParseFault) (p : ProgramTree) (h : HasParseFault text f) → HasTree text p → Reads 100 (grammar_tokens h.lexemes) p
+read_by laws text f p h t = subst (λ l. Reads 100 (grammar_tokens l) p) (laws.lists text t.lexemes h.lexemes t.tokens h.tokens) t.reads
+
+cause_by : Laws → (text : List ℕ) (f g : ParseFault) (h : HasParseFault text f) (k : HasParseFault text g) → HasCause (grammar_tokens h.lexemes) g
+cause_by laws text f g h k = subst (λ l. HasCause (grammar_tokens l) g) (laws.lists text k.lexemes h.lexemes k.tokens h.tokens) k.cause
+
+-- ---- a sound tree is not refused
+not_first : (f : TreeFault) (fs : List TreeFault) → fs ≡ [] → ComesFirst f fs → ⊥
+not_first f fs e c = let d = c.1 in let n : f ∷ c.0 ≡ [] = sym d ∙ e in absurd (cc)
+
+of_cause : Laws → (ts : List Token) (p q : ProgramTree) → Reads 100 ts p → Reads 100 ts q → p ≡ q
+of_cause laws ts p q a b = laws.trees ts p q a.nodes b.nodes a.program b.program
+
+tree_not_refused : Laws → (text : List ℕ) (f : ParseFault) (t : TreeFault) (p : ProgramTree) (h : HasParseFault text f) → TreeHas (grammar_tokens h.lexemes) t → HasTree text p → tree_faults p ≡ [] → ⊥
+tree_not_refused laws text f t p h c has none =
+    let e = of_cause laws (grammar_tokens h.lexemes) c.0 p c.1 (read_by laws text f p h has) in
+    not_first t (tree_faults c.0) (ap tree_faults e ∙ none) c.2
+
+-- a tree that breaks no typing rule has no first violation
+no_violation : (tree : SmallTree) (f : TypeFault) → violations tree ≡ [] → option_map fault_of (least_of (violations tree)) ≡ Some f → ⊥
+no_violation tree f v h = let e : None ≡ Some f = ap (λ vs. option_map fault_of (least_of vs)) (sym v) ∙ h in absurd (cc)
+
+lex_not_sound : Laws → (text : List ℕ) (f : LexFault) → HasFault text f → IsSound text → ⊥
+lex_not_sound laws text f c s = laws.never text s.has.lexemes f s.has.tokens c
+
+parse_not_sound : Laws → (text : List ℕ) (f : ParseFault) → IsRefused text (parsing f) → IsSound text → ⊥
+parse_not_sound laws text (parse.Syntax at) c s = no_tree (grammar_tokens c.lexemes) at s.tree (of_syntax _ at c.cause) (read_by laws text (parse.Syntax at) s.tree c s.has)
+parse_not_sound laws text (parse.TooDeep at) c s = absurd c
+parse_not_sound laws text (parse.ContractOnPrototype at) c s = tree_not_refused laws text (parse.ContractOnPrototype at) (contract_on_prototype at) s.tree c c.cause s.has s.faultless
+parse_not_sound laws text (parse.DeepRead at) c s = tree_not_refused laws text (parse.DeepRead at) (deep_read at) s.tree c c.cause s.has s.faultless
+parse_not_sound laws text parse.Memory c s = absurd c
+
+deep_not_sound : Laws → (text : List ℕ) → IsTooDeep text → IsSound text → ⊥
+deep_not_sound laws text d s = no_tree (grammar_tokens d.fault.lexemes) d.at s.tree (of_deep _ d.at d.fault.cause) (read_by laws text (parse.TooDeep d.at) s.tree d.fault s.has)
+
+-- ---- one refusal
+tree_first : Laws → (text : List ℕ) (at : Place) (f g : ParseFault) (t : TreeFault) (h : HasParseFault text f) (k : HasParseFault text g) → First (grammar_tokens h.lexemes) at → TreeHas (grammar_tokens k.lexemes) t → ⊥
+tree_first laws text at f g t h k first c =
+    let same = laws.lists text k.lexemes h.lexemes k.tokens h.tokens in
+    no_tree (grammar_tokens h.lexemes) at c.0 first (subst (λ l. Reads 100 (grammar_tokens l) c.0) same c.1)
+
+one_tree_fault : Laws → (text : List ℕ) (f g : ParseFault) (t u : TreeFault) (h : HasParseFault text f) (k : HasParseFault text g) → TreeHas (grammar_tokens h.lexemes) t → TreeHas (grammar_tokens k.lexemes) u → t ≡ u
+one_tree_fault laws text f g t u h k c d =
+    let same = laws.lists text k.lexemes h.lexemes k.tokens h.tokens in
+    let e = of_cause laws (grammar_tokens h.lexemes) c.0 d.0 c.1 (subst (λ l. Reads 100 (grammar_tokens l) d.0) same d.1) in
+    let x = c.2.1 in
+    let y = d.2.1 in
+    let z : t ∷ c.2.0 ≡ u ∷ d.2.0 = sym x ∙ (ap tree_faults e ∙ y) in
+    cc
+
+lex_not_parse : Laws → (text : List ℕ) (f : LexFault) (g : ParseFault) → HasFault text f → IsRefused text (parsing g) → ⊥
+lex_not_parse laws text f (parse.Syntax at) c d = laws.never text d.lexemes f d.tokens c
+lex_not_parse laws text f (parse.TooDeep at) c d = absurd d
+lex_not_parse laws text f (parse.ContractOnPrototype at) c d = laws.never text d.lexemes f d.tokens c
+lex_not_parse laws text f (parse.DeepRead at) c d = laws.never text d.lexemes f d.tokens c
+lex_not_parse laws text f parse.Memory c d = absurd d
+
+contract_place : (a b : Place) → contract_on_prototype a ≡ contract_on_prototype b → a ≡ b
+contract_place a b e = cc
+
+read_place : (a b : Place) → deep_read a ≡ deep_read b → a ≡ b
+read_place a b e = cc
+
+contract_not_read : (a b : Place) → contract_on_prototype a ≡ deep_read b → ⊥
+contract_not_read a b e = absurd (cc)
+
+one_parse : Laws → (text : List ℕ) (f g : ParseFault) → IsRefused text (parsing f) → IsRefused text (parsing g) → f ≡ g
+one_parse laws text (parse.Syntax a) (parse.Syntax b) c d = ap parse.Syntax (one_place (grammar_tokens c.lexemes) a b (of_syntax _ a c.cause) (of_syntax _ b (cause_by laws text (parse.Syntax a) (parse.Syntax b) c d)))
+one_parse laws text (parse.Syntax a) (parse.ContractOnPrototype b) c d = absurd (tree_first laws text a (parse.Syntax a) (parse.ContractOnPrototype b) (contract_on_prototype b) c d (of_syntax _ a c.cause) d.cause)
+one_parse laws text (parse.Syntax a) (parse.DeepRead b) c d = absurd (tree_first laws text a (parse.Syntax a) (parse.DeepRead b) (deep_read b) c d (of_syntax _ a c.cause) d.cause)
+one_parse laws text (parse.ContractOnPrototype a) (parse.Syntax b) c d = absurd (tree_first laws text b (parse.Syntax b) (parse.ContractOnPrototype a) (contract_on_prototype a) d c (of_syntax _ b d.cause) c.cause)
+one_parse laws text (parse.ContractOnPrototype a) (parse.ContractOnPrototype b) c d = ap parse.ContractOnPrototype (contract_place a b (one_tree_fault laws text (parse.ContractOnPrototype a) (parse.ContractOnPrototype b) (contract_on_prototype a) (contract_on_prototype b) c d c.cause d.cause))
+one_parse laws text (parse.ContractOnPrototype a) (parse.DeepRead b) c d = absurd (contract_not_read a b (one_tree_fault laws text (parse.ContractOnPrototype a) (parse.DeepRead b) (contract_on_prototype a) (deep_read b) c d c.cause d.cause))
+one_parse laws text (parse.DeepRead a) (parse.Syntax b) c d = absurd (tree_first laws text b (parse.Syntax b) (parse.DeepRead a) (deep_read a) d c (of_syntax _ b d.cause) c.cause)
+one_parse laws text (parse.DeepRead a) (parse.ContractOnPrototype b) c d = absurd (contract_not_read b a (sym (one_tree_fault laws text (parse.DeepRead a) (parse.ContractOnPrototype b) (deep_read a) (contract_on_prototype b) c d c.cause d.cause)))
+one_parse laws text (parse.DeepRead a) (parse.DeepRead b) c d = ap parse.DeepRead (read_place a b (one_tree_fault laws text (parse.DeepRead a) (parse.DeepRead b) (deep_read a) (deep_read b) c d c.cause d.cause))
+one_parse laws text (parse.TooDeep a) g c d = absurd c
+one_parse laws text parse.Memory g c d = absurd c
+one_parse laws text f (parse.TooDeep b) c d = absurd d
+one_parse laws text f parse.Memory c d = absurd d
+
+one_typed : Laws → (text : List ℕ) (f g : TypeFault) → HasTypeFault text f → HasTypeFault text g → f ≡ g
+one_typed laws text f g c d =
+    let e : Some f ≡ Some g = sym c.least ∙ (ap (λ q. option_map fault_of (least_of (violations q))) (same_tree laws text c.tree d.tree c.small d.small) ∙ d.least) in
+    cc
+
+one_refusal : Laws → (text : List ℕ) (r s : Refusal) → IsRefused text r → IsRefused text s → r ≡ s
+one_refusal laws text (lexical f) (lexical g) c d = ap lexical (laws.faults text f g c d)
+one_refusal laws text (lexical f) (parsing g) c d = absurd (lex_not_parse laws text f g c d)
+one_refusal laws text (lexical f) (typing g) c d = absurd (lex_not_sound laws text f c d.sound)
+one_refusal laws text (parsing f) (lexical g) c d = absurd (lex_not_parse laws text g f d c)
+one_refusal laws text (parsing f) (parsing g) c d = ap parsing (one_parse laws text f g c d)
+one_refusal laws text (parsing f) (typing g) c d = absurd (parse_not_sound laws text f c d.sound)
+one_refusal laws text (typing f) (lexical g) c d = absurd (lex_not_sound laws text g d c.sound)
+one_refusal laws text (typing f) (parsing g) c d = absurd (parse_not_sound laws text g d c.sound)
+one_refusal laws text (typing f) (typing g) c d = ap typing (one_typed laws text f g c d)
+
+-- ---- what passes the limit of nesting is not refused
+deep_not_refused : Laws → (text : List ℕ) (r : Refusal) → IsRefused text r → IsTooDeep text → ⊥
+deep_not_refused laws text (lexical f) c d = laws.never text d.fault.lexemes f d.fault.tokens c
+deep_not_refused laws text (parsing (parse.Syntax at)) c d = not_both (grammar_tokens c.lexemes) at d.at c.cause (cause_by laws text (parse.Syntax at) (parse.TooDeep d.at) c d.fault)
+deep_not_refused laws text (parsing (parse.TooDeep at)) c d = absurd c
+deep_not_refused laws text (parsing (parse.ContractOnPrototype at)) c d = tree_first laws text d.at (parse.TooDeep d.at) (parse.ContractOnPrototype at) (contract_on_prototype at) d.fault c (of_deep _ d.at d.fault.cause) c.cause
+deep_not_refused laws text (parsing (parse.DeepRead at)) c d = tree_first laws text d.at (parse.TooDeep d.at) (parse.DeepRead at) (deep_read at) d.fault c (of_deep _ d.at d.fault.cause) c.cause
+deep_not_refused laws text (parsing parse.Memory) c d = absurd c
+deep_not_refused laws text (typing f) c d = deep_not_sound laws text d c.sound
+
+-- ---- what is built and what isn't
+small_unbuilt : Laws → (text : List ℕ) (p : SmallTree) (at : Place) → IsSmall text p → IsUnbuilt text at → ⊥
+small_unbuilt laws text p at s u =
+    let same = laws.lists text u.lexemes s.lexemes u.tokens s.tokens in
+    laws.unbuilt.1 (small_tokens s.lexemes) p at s.program (subst (λ l. FirstFault (small_tokens l) at) same u.fault)
+
+one_unbuilt : Laws → (text : List ℕ) (a b : Place) → IsUnbuilt text a → IsUnbuilt text b → a ≡ b
+one_unbuilt laws text a b u v =
+    let same = laws.lists text v.lexemes u.lexemes v.tokens u.tokens in
+    laws.unbuilt.0 (small_tokens u.lexemes) a b u.fault (subst (λ l. FirstFault (small_tokens l) b) same v.fault)
+
+refused_not_unbuilt : Laws → (text : List ℕ) (r : Refusal) (at : Place) → IsRefused text r → IsSoundUnbuilt text at → ⊥
+refused_not_unbuilt laws text (lexical f) at c d = lex_not_sound laws text f c d.sound
+refused_not_unbuilt laws text (parsing f) at c d = parse_not_sound laws text f c d.sound
+refused_not_unbuilt laws text (typing f) at c d = small_unbuilt laws text c.tree at c.small d.unbuilt
+
+refused_not_run : Laws → (text : List ℕ) (r : Refusal) (p : SmallTree) → IsRefused text r → IsRunnable text p → ⊥
+refused_not_run laws text (lexical f) p c d = lex_not_sound laws text f c d.sound
+refused_not_run laws text (parsing f) p c d = parse_not_sound laws text f c d.sound
+refused_not_run laws text (typing f) p c d = no_violation p f d.typed (ap (λ q. option_map fault_of (least_of (violations q))) (sym (same_tree laws text c.tree p c.small d.small)) ∙ c.least)
+
+pub one_verdict : Laws → (text : List ℕ) (v w : Verdict) → IsVerdict text v → IsVerdict text w → v ≡ w
+one_verdict laws text (refused r) (refused s) c d = ap refused (one_refusal laws text r s c d)
+one_verdict laws text (refused r) too_deep c d = absurd (deep_not_refused laws text r c d)
+one_verdict laws text (refused r) (unbuilt b) c d = absurd (refused_not_unbuilt laws text r b c d)
+one_verdict laws text (refused r) (runs q) c d = absurd (refused_not_run laws text r q c d)
+one_verdict laws text too_deep (refused s) c d = absurd (deep_not_refused laws text s d c)
+one_verdict laws text too_deep too_deep c d = refl
+one_verdict laws text too_deep (unbuilt b) c d = absurd (deep_not_sound laws text c d.sound)
+one_verdict laws text too_deep (runs q) c d = absurd (deep_not_sound laws text c d.sound)
+one_verdict laws text (unbuilt a) (refused s) c d = absurd (refused_not_unbuilt laws text s a d c)
+one_verdict laws text (unbuilt a) too_deep c d = absurd (deep_not_sound laws text d c.sound)
+one_verdict laws text (unbuilt a) (unbuilt b) c d = ap unbuilt (one_unbuilt laws text a b c.unbuilt d.unbuilt)
+one_verdict laws text (unbuilt a) (runs q) c d = absurd (small_unbuilt laws text q a d.small c.unbuilt)
+one_verdict laws text (runs p) (refused s) c d = absurd (refused_not_run laws text s p d c)
+one_verdict laws text (runs p) too_deep c d = absurd (deep_not_sound laws text d c.sound)
+one_verdict laws text (runs p) (unbuilt b) c d = absurd (small_unbuilt laws text p b c.small d.unbuilt)
+one_verdict laws text (runs p) (runs q) c d = ap runs (same_tree laws text p q c.small d.small)

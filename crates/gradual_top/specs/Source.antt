@@ -1,0 +1,127 @@
+-- What the text of a source file is: its tree, why it is refused, and whether it is built. This project's own.
+use Rattle.std.specs.Prelude.{◌≡◌, ℕ, List, [], map, Option, Some}
+use Rattle.std.specs.Option.{option_map}
+use Rattle.gc0_base.specs.declared.place.Place.{Place}
+use Rattle.c0_lex.specs.declared.fault.LexFault.{LexFault}
+use Rattle.c0_lex.specs.Texts.{Lexeme, HasTokens, HasFault}
+use Rattle.parsed_tree.specs.Tree.{ProgramTree}
+use Rattle.c0_grammar.specs.Tokens.{Token}
+use Rattle.c0_grammar.specs.Seen.{what_of}
+use Rattle.c0_grammar.specs.Reads.{Reads}
+use Rattle.c0_parse.specs.declared.fault.ParseFault.{ParseFault}
+use Rattle.c0_parse.specs.declared.fault.ParseFault.TheVariants as parse
+use Rattle.c0_parse.specs.TreeFaults.{tree_faults}
+use Rattle.c0_parse.specs.Causes.{HasCause}
+use Rattle.c0_types.specs.declared.violation.TypeFault.{TypeFault}
+use Rattle.c0_types.specs.Violations.{least_of, fault_of}
+use Rattle.c0_types.specs.Rules.{violations}
+use Rattle.built_text.specs.declared.token.Token.{Token as SmallToken}
+use Rattle.built_text.specs.Tree.{ProgramTree as SmallTree}
+use Rattle.built_text.specs.Grammar.{IsProgram}
+use Rattle.built_text.specs.Reads.{FirstFault}
+use Rattle.built_text.specs.Tokens.{built_lexeme}
+
+-- the tokens of a text, as the grammar of the language sees them
+abbrev pub grammar_token : Lexeme → Token
+grammar_token l = record { what = what_of l.kind l.bytes; place = l.place }
+
+abbrev pub grammar_tokens : List Lexeme → List Token
+grammar_tokens ls = map grammar_token ls
+
+-- and as the grammar of what is built so far sees them
+abbrev pub small_tokens : List Lexeme → List SmallToken
+small_tokens ls = map built_lexeme ls
+
+-- how many nodes may stand on a path of a tree
+abbrev pub most_nodes : ℕ
+most_nodes = 100
+
+-- the text has this tree, which is not too deep
+pub record HasTree (text : List ℕ) (tree : ProgramTree) : Type 0 where
+  pub lexemes : List Lexeme
+  pub tokens : HasTokens text lexemes
+  pub reads : Reads most_nodes (grammar_tokens lexemes) tree
+
+-- the text has tokens, and the parser's fault in them is this
+pub record HasParseFault (text : List ℕ) (fault : ParseFault) : Type 0 where
+  pub lexemes : List Lexeme
+  pub tokens : HasTokens text lexemes
+  pub cause : HasCause (grammar_tokens lexemes) fault
+
+-- the text has a tree, which is not too deep and has no fault of formulas and prototypes
+pub record IsSound (text : List ℕ) : Type 0 where
+  pub tree : ProgramTree
+  pub has : HasTree text tree
+  pub faultless : tree_faults tree ≡ []
+
+-- the text is one of the grammar that is built so far, and this is its tree there
+pub record IsSmall (text : List ℕ) (tree : SmallTree) : Type 0 where
+  pub lexemes : List Lexeme
+  pub tokens : HasTokens text lexemes
+  pub program : IsProgram (small_tokens lexemes) tree
+
+-- the text is built, and this is its first violation of a typing rule
+pub record HasTypeFault (text : List ℕ) (fault : TypeFault) : Type 0 where
+  pub sound : IsSound text
+  pub tree : SmallTree
+  pub small : IsSmall text tree
+  pub least : option_map fault_of (least_of (violations tree)) ≡ Some fault
+
+-- why a text is refused
+pub data Refusal : Type 0 where
+  lexical : LexFault → Refusal
+  parsing : ParseFault → Refusal
+  typing : TypeFault → Refusal
+
+-- The text is refused for this. Want of memory is no such cause, and that a text is too deep passes a limit.
+abbrev pub IsRefused : List ℕ → Refusal → Type 0
+IsRefused text (lexical f) = HasFault text f
+IsRefused text (parsing (parse.Syntax at)) = HasParseFault text (parse.Syntax at)
+IsRefused text (parsing (parse.TooDeep at)) = ⊥
+IsRefused text (parsing (parse.ContractOnPrototype at)) = HasParseFault text (parse.ContractOnPrototype at)
+IsRefused text (parsing (parse.DeepRead at)) = HasParseFault text (parse.DeepRead at)
+IsRefused text (parsing parse.Memory) = ⊥
+IsRefused text (typing f) = HasTypeFault text f
+
+-- each tree of the text is too deep
+pub record IsTooDeep (text : List ℕ) : Type 0 where
+  pub at : Place
+  pub fault : HasParseFault text (parse.TooDeep at)
+
+-- it is none of that grammar, and the first token that shows it stands here
+pub record IsUnbuilt (text : List ℕ) (place : Place) : Type 0 where
+  pub lexemes : List Lexeme
+  pub tokens : HasTokens text lexemes
+  pub fault : FirstFault (small_tokens lexemes) place
+
+-- the text is built, this is its tree there, and no rule refuses it
+pub record IsRunnable (text : List ℕ) (tree : SmallTree) : Type 0 where
+  pub sound : IsSound text
+  pub small : IsSmall text tree
+  pub typed : violations tree ≡ []
+
+-- what a text is to this program
+pub data Verdict : Type 0 where
+  refused : Refusal → Verdict
+  too_deep : Verdict
+  unbuilt : Place → Verdict
+  runs : SmallTree → Verdict
+
+-- the text has a tree without a fault, but is none of the grammar that is built so far
+pub record IsSoundUnbuilt (text : List ℕ) (place : Place) : Type 0 where
+  pub sound : IsSound text
+  pub unbuilt : IsUnbuilt text place
+
+abbrev pub IsVerdict : List ℕ → Verdict → Type 0
+IsVerdict text (refused r) = IsRefused text r
+IsVerdict text too_deep = IsTooDeep text
+IsVerdict text (unbuilt at) = IsSoundUnbuilt text at
+IsVerdict text (runs tree) = IsRunnable text tree
+
+-- a text has at most one verdict
+abbrev pub OneVerdict : Type 0
+OneVerdict = (text : List ℕ) (v w : Verdict) → IsVerdict text v → IsVerdict text w → v ≡ w
+
+-- and each text has one
+abbrev pub EachVerdict : Type 0
+EachVerdict = (text : List ℕ) → (v : Verdict) × IsVerdict text v
