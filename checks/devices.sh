@@ -47,19 +47,19 @@ fi
 status=$(cat status.txt)
 check "a closed pipe as the output" 10 "write fault"
 
-# The longest sum that fits: each operator is a node of the tree, and a path has at most 100 with
-# the statement's own, so that the 100th operator goes too deep.
+# The longest sum that fits: each operator is a node of the tree, and a path has at most 100, with
+# the function's braces and the statement, so that the 99th operator goes too deep.
 { printf 'int main() { return 1'; head -c 262100 /dev/zero | tr '\0' 'x' | sed 's/xx/+1/g'; printf '; }'; } > sum.c0
 "$run" run sum.c0 >out 2>err; status=$?
 check "the longest sum that fits" 7 "limit nesting"
 
 sum() { printf 'int main() { return 1'; i=1; while [ "$i" -lt "$1" ]; do printf '+1'; i=$((i + 1)); done; printf '; }\n'; }
-sum 100 > hundred.c0
-"$run" run hundred.c0 >out 2>err; status=$?
-check "a sum of 100 terms" 0 "result 100"
-sum 101 > more.c0
+sum 99 > most.c0
+"$run" run most.c0 >out 2>err; status=$?
+check "a sum of 99 terms" 0 "result 99"
+sum 100 > more.c0
 "$run" run more.c0 >out 2>err; status=$?
-check "a sum of 101 terms" 7 "limit nesting"
+check "a sum of 100 terms" 7 "limit nesting"
 
 # Texts of one token that fill the limit.
 same() {
