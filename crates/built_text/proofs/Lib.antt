@@ -6,3 +6,9 @@ pub mod Runs
 pub mod Failing
 pub mod Loops
 pub mod Cut
+pub mod Shows
+pub mod Widened
+pub mod Follows
+pub mod Allows
+pub mod Formed
+pub mod Told

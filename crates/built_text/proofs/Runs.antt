@@ -1,5 +1,5 @@
 -- What a run answers: the tree of the text, or its first fault.
-use Rattle.std.proofs.Common.{◌≡◌, ℕ, zero, suc, Bool, true, false, cond, List, [], ◌∷◌, ◌++◌, Some, None, Result, Ok, Err, ◌⊎◌, inl, inr, refl, sym, ap, ◌∙◌, subst, arith, append_assoc, append-nil}
+use Rattle.std.proofs.Common.{◌≡◌, ℕ, Bool, true, false, cond, List, [], ◌∷◌, ◌++◌, Some, None, Result, Ok, Err, ◌⊎◌, inl, inr, refl, sym, ap, ◌∙◌, subst, arith, append_assoc, append-nil}
 use Rattle.gc0_base.specs.declared.place.Place.{Place}
 use Rattle.gc0_base.specs.declared.word.Word.{Word}
 use Rattle.built_text.specs.declared.token.Token.{Token}
@@ -12,9 +12,8 @@ use Rattle.built_text.specs.Tree.{ExprTree, number, value, return_stmt, StmtTree
 use Rattle.built_text.specs.Grammar.{token, fixed, operator_mark, clause_word, Written, digits, truth_word, word, result_word, before, between, round, spell, spot, Chain, no_link, link, spell_chain, Args, no_args, some_args, spell_args, CallText, spell_call, named_at, RightText, plain, invoked, spell_right, FormulaText, precise, gradual, spell_formula, NoteText, spell_note, spell_notes, Line, declares, assigns, calls, prints, returns, ifs, whiles, asserts, Otherwise, no_else, elses, Lines, no_lines, line, spell_line, spell_otherwise, spell_lines, typed_at, MoreParameters, no_parameter, parameter, spell_more, Parameters, no_parameters, parameters, spell_parameters, ClauseText, spell_contract, FunctionText, spell_function, spell_functions, IsProgram}
 use Rattle.built_text.specs.Plan.{Plan, await, named, typed, peek, operand, ops, chain, right_side, notes, contract, lines, more_parameters, functions, finished, step, nowhere, finish, go, run, start}
 use Rattle.built_text.proofs.Takes.{no_tail, Takes, TakesNext}
-use Rattle.std.proofs.Common.{◌-◌}
 use Rattle.built_text.specs.Tokens.{EndsLast}
-use Rattle.built_text.specs.Reads.{Begins, FirstFault, OneTree, OneFault}
+use Rattle.built_text.specs.Reads.{Begins, FirstFault, OneTree, OneFault, EachTokens}
 use Rattle.built_text.proofs.Backs.{backward}
 use Rattle.built_text.proofs.Enters.{complete}
 
@@ -337,3 +336,10 @@ one_place ts a b f g = by (fronts f.before g.before f.bad g.bad f.after g.after 
 
 pub one_of_faults : OneFault
 one_of_faults = (one_place, no_tree)
+
+pub each : EachTokens
+each ts x = by (run start ts) refl
+  where
+    by : (r : Result ProgramTree Place) → run start ts ≡ r → ((p : ProgramTree) × IsProgram ts p) ⊎ ((at : Place) × FirstFault ts at)
+    by (Ok p) e = inl (p, reads ts p e)
+    by (Err at) e = inr (at, faults ts at x e)

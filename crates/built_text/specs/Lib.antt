@@ -4,3 +4,4 @@ pub mod Tokens
 pub mod Grammar
 pub mod Reads
 pub mod Plan
+pub mod Forms

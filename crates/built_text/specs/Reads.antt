@@ -1,5 +1,5 @@
 -- What tokens are read as, and where they first go wrong.
-use Rattle.std.specs.Prelude.{◌≡◌, List, [], ◌∷◌, ◌++◌, Result, Ok, Err}
+use Rattle.std.specs.Prelude.{◌≡◌, ◌⊎◌, List, [], ◌∷◌, ◌++◌, Result, Ok, Err}
 use Rattle.gc0_base.specs.declared.place.Place.{Place}
 use Rattle.built_text.specs.declared.token.Token.{Token}
 use Rattle.built_text.specs.declared.tree.Program.{Program}
@@ -7,6 +7,7 @@ use Rattle.built_text.specs.declared.tree.ReadFault.{ReadFault}
 use Rattle.built_text.specs.declared.tree.ReadFault.TheVariants.{NotBuilt, Memory}
 use Rattle.built_text.specs.Tree.{ProgramTree}
 use Rattle.built_text.specs.Views.{program_view}
+use Rattle.built_text.specs.Tokens.{EndsLast}
 use Rattle.built_text.specs.Grammar.{IsProgram}
 
 -- some program begins so
@@ -44,3 +45,7 @@ OneTree = (ts : List Token) (p q : ProgramTree) → IsProgram ts p → IsProgram
 -- tokens have at most one first fault, and those that have a tree have none
 abbrev pub OneFault : Type 0
 OneFault = ((ts : List Token) (a b : Place) → FirstFault ts a → FirstFault ts b → a ≡ b) × ((ts : List Token) (p : ProgramTree) (a : Place) → IsProgram ts p → FirstFault ts a → ⊥)
+
+-- tokens that end with the end of the text have a tree or a first fault
+abbrev pub EachTokens : Type 0
+EachTokens = (ts : List Token) → EndsLast ts → ((p : ProgramTree) × IsProgram ts p) ⊎ ((at : Place) × FirstFault ts at)

@@ -97,4 +97,4 @@ pub record EndsLast (ts : List Token) : Type 0 where
 
 -- the tokens that a text is cut into end with its end
 abbrev pub CutEndsLast : Type 0
-CutEndsLast = (text : List ℕ) (ts : List LexToken) → HasTokens text (map lexeme_of ts) → EndsLast (all_built ts)
+CutEndsLast = (text : List ℕ) (ls : List Lexeme) → HasTokens text ls → EndsLast (map built_lexeme ls)

@@ -4,6 +4,7 @@
 
 mod cursor;
 mod expressions;
+mod forms;
 mod functions;
 mod reader;
 mod statements;
@@ -13,7 +14,8 @@ mod token;
 mod tokens;
 mod tree;
 
-pub use reader::{one_fault, one_tree, read};
+pub use forms::built_forms;
+pub use reader::{each_tokens, one_fault, one_tree, read};
 pub use tokens::cut_ends_last;
 pub use tree::{
     Call, Clause, ClauseKind, Expr, Formula, Function, Named, Note, Operator, Parameter, Program,

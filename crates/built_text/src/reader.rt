@@ -3,7 +3,7 @@ ghost use Rattle.built_text.specs.Tree.{ProgramTree};
 ghost use Rattle.built_text.specs.Views.{program_view};
 ghost use Rattle.built_text.specs.Tokens.{all_built, EndsLast};
 ghost use Rattle.built_text.specs.Grammar.{IsProgram};
-ghost use Rattle.built_text.specs.Reads.{HasReadCause, GivesOrMemory, OneTree, OneFault};
+ghost use Rattle.built_text.specs.Reads.{HasReadCause, GivesOrMemory, OneTree, OneFault, EachTokens};
 
 use crate::functions::program_of;
 use crate::tokens::built_tokens;
@@ -53,4 +53,9 @@ pub fn one_tree()
 /// Tokens have at most one first fault, and those that have a tree have none.
 pub fn one_fault()
     ensures { OneFault }
+{}
+
+/// Tokens that end with the end of the text have a tree or a first fault.
+pub fn each_tokens()
+    ensures { EachTokens }
 {}

@@ -1,7 +1,7 @@
 ghost use Rattle.std.specs.Prelude.{◌<◌, length};
 
 use crate::tree::{ClauseKind, ReadFault, Stmt};
-use crate::{cut_ends_last, one_fault, one_tree, read};
+use crate::{built_forms, cut_ends_last, each_tokens, one_fault, one_tree, read};
 use c0_lex::tokens;
 use std::alloc::Global;
 use std::test::Fail;
@@ -41,6 +41,8 @@ fn reads_functions(rt: HostRuntime) -> Result<(), Fail> {
     one_tree();
     one_fault();
     cut_ends_last();
+    built_forms();
+    each_tokens();
     let lexed = tokens(rt.alloc(), HALF)?;
     let program = read(rt.alloc(), &lexed)?;
     assert_eq!(rt; program.functions.len(), 2);

@@ -1,0 +1,5 @@
+use Rattle.built_text.proofs.Told.{built_forms}
+use Rattle.built_text.proofs.forms.built_forms.Goals as goal
+
+pub returns : goal.returns
+returns c = built_forms c.one_tree.ensures
