@@ -1,0 +1,4 @@
+pub mod Names
+pub mod Indexed
+pub mod Tables
+pub mod Types

@@ -1,0 +1,4 @@
+pub mod Fronts
+pub mod Blocks
+pub mod Zips
+pub mod Parts

@@ -1,0 +1,9 @@
+pub mod Values
+pub mod Texts
+pub mod Expressions
+pub mod Formulas
+pub mod Statements
+pub mod Rows
+pub mod Targets
+pub mod Resolved
+pub mod Examples

@@ -1,0 +1,21 @@
+-- The least violation of two parts, and of none.
+use Rattle.std.proofs.Common.{◌≡◌, Bool, true, false, cond, List, [], ◌∷◌, ◌++◌, fold, Option, Some, None, refl}
+use Rattle.c0_rules.specs.declared.violation.Violation.{Violation}
+use Rattle.c0_rules.specs.Violations.{comes_before, earlier, least_of}
+
+pub least_both : (least : Option Violation) (a b : List Violation) → fold earlier least (a ++ b) ≡ fold earlier (fold earlier least a) b
+least_both least [] b = refl
+least_both least (v ∷ a) b = least_both (earlier least v) a b
+
+-- one that was found stays
+pub stays : (w : Violation) (vs : List Violation) → None ≡ fold earlier (Some w) vs → ⊥
+stays w [] e = cc
+stays w (v ∷ vs) e =
+    (elim (comes_before v w) as (λ t. None ≡ fold earlier (cond t (Some v) (Some w)) vs → ⊥) [
+      | true ↦ stays v vs
+      | false ↦ stays w vs
+    ]) e
+
+pub none_found : (vs : List Violation) → None ≡ least_of vs → vs ≡ []
+none_found [] e = refl
+none_found (w ∷ vs) e = absurd (stays w vs e)

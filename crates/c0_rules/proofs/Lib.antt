@@ -1,0 +1,5 @@
+pub mod Least
+pub mod Kept
+pub mod Found
+pub mod Counts
+pub mod Likeness
