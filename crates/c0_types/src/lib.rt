@@ -1,50 +1,42 @@
-//! Resolves the names of a program that was read, and checks its types.
+//! Resolves the names of a text of C0 that was read, and checks its types.
 //!
-//! `check` finds the violation of the typing rules that comes first in the text. Where there is
-//! none, `build` makes the resolved tree.
+//! `c0_rules` finds the violation of the typing rules that comes first in the text. Where there is
+//! none, `c0_numbers` makes the resolved tree.
 #![tactic(auto)]
 
-mod build;
-mod check;
-mod scope;
-mod violation;
-
 ghost use Rattle.std.specs.Prelude.{◌≡◌, [], IfOk, IfErr};
-ghost use Rattle.built_text.specs.Views as read;
+ghost use Rattle.parsed_tree.specs.Views as read;
 ghost use Rattle.gc0_tree.specs.Views.{program_view};
-ghost use Rattle.c0_types.specs.Violations.{Reports};
-ghost use Rattle.c0_types.specs.Rules.{violations};
-ghost use Rattle.c0_types.specs.Resolved.{resolved};
+ghost use Rattle.c0_rules.specs.Violations.{Reports};
+ghost use Rattle.c0_rules.specs.Rules.{violations};
+ghost use Rattle.c0_numbers.specs.Resolved.{resolved};
 
-use crate::build::build;
-use crate::check::least_violation;
-use crate::violation::fault_at;
+use c0_numbers::numbered;
+use c0_rules::{fault_at, least_violation};
+pub use c0_rules::{Rule, TypeFault, Violation};
 use gc0_tree::Program;
-pub use scope::{Local, Standing};
+use parsed_tree::Parsed;
 use std::alloc::Global;
-pub use violation::{Rule, TypeFault, Violation};
 
-/// The resolved tree of a program that was read: numbers in place of names, and its clauses
-/// joined. The rules are those of the C0 Reference for types and scopes, and those of Gradual C0
-/// for contracts.
+/// The resolved tree of a text that was read: numbers in place of names, and its clauses joined.
+/// The rules are those of the C0 Reference for types, scopes and paths, and those of Gradual C0 for
+/// contracts.
 ///
-/// The recursion is as deep as the program's expressions and blocks, which in a program that was
-/// read are at most 1,101 and 100 deep.
+/// The recursion is as deep as the text's expressions and statements.
 ///
 /// # Errors
 ///
 /// The violation of a typing rule that comes first in the text; at one place the rules stand in
 /// the order of `Rule`, and that there is no `main` is reported only where nothing else is.
-/// `Memory` where there is not memory enough, or where there are more than 2^32 - 1 functions or
-/// locals.
-#[tactic(auto, using(crate::proofs::Least::none_found))]
-pub fn resolve(alloc: Global, parsed: &built_text::Program) -> Result<Program, TypeFault>
+/// `Memory` where there is not memory enough, where a type has more than 2^64 - 1 `*`, or where
+/// there are more than 2^32 - 1 of what is numbered.
+pub fn resolve(alloc: Global, parsed: &Parsed) -> Result<Program, TypeFault>
     ensures kept { IfOk result (λ q. violations (read.program_view parsed.now) ≡ []) }
     ensures program { IfOk result (λ q. program_view q ≡ resolved (read.program_view parsed.now)) }
     ensures fault { IfErr result (λ f. Reports (violations (read.program_view parsed.now)) f) }
 {
     match least_violation(alloc, parsed)? {
         Some(least) => Err(fault_at(least.rule, least.place)),
-        None => Ok(build(alloc, parsed)?),
+        None => Ok(numbered(alloc, parsed)?),
     }
 }

@@ -1,303 +1,271 @@
--- A program of the grammar that violates no typing rule resolves to one that has code.
-use Rattle.std.proofs.Common.{◌≡◌, ℕ, zero, suc, ◌+◌, Bool, true, false, ◌&&◌, ◌||◌, not, cond, eqb, eqb-true, length, List, [], ◌∷◌, ◌++◌, map, Option, Some, None, is_some, slice_get, IsTrue, refl, sym, subst, ap, ◌∙◌}
-use Rattle.std.specs.Option.{option_map}
-use Rattle.std.specs.Str.{bytes_eq}
+-- A program of the built forms that violates no typing rule resolves to one that has code.
+use Rattle.std.proofs.Common.{◌≡◌, ℕ, zero, suc, Bool, true, false, ◌&&◌, if◌then◌else◌, not, eqb, length, List, [], ◌∷◌, ◌++◌, fold, Option, Some, None, is_some, slice_get, option_and_then, IsTrue, refl, sym, subst, ap, ◌∙◌, append_assoc, append-nil, unwrap_or, eqb-true}
 use Rattle.gc0_base.specs.declared.place.Place.{Place}
-use Rattle.built_text.specs.declared.tree.Shape.{Shape}
-use Rattle.built_text.specs.declared.tree.Shape.TheVariants.{Int, Bool as Truth}
-use Rattle.built_text.specs.declared.tree.UnaryOperator.{UnaryOperator}
-use Rattle.built_text.specs.declared.tree.UnaryOperator.TheVariants.{Not, Negate}
-use Rattle.built_text.specs.declared.tree.Operator.{Operator}
-use Rattle.built_text.specs.declared.tree.Operator.TheVariants as op
-use Rattle.built_text.specs.declared.tree.Parameter.{Parameter}
-use Rattle.built_text.specs.declared.tree.ClauseKind.TheVariants.{Requires, Ensures}
-use Rattle.built_text.specs.declared.token.Token.{Token}
-use Rattle.built_text.specs.Tree.{ExprTree, number, truth, local, outcome, unary, binary, spot_of, CallTree, RightTree, value, call, NoteTree, StmtTree, declare, assign, call_stmt, print_stmt, return_stmt, if_stmt, while_stmt, assert_stmt, StmtTrees, no_stmts, stmt, FunctionTree, ProgramTree}
-use Rattle.built_text.specs.Grammar.{is_return, last_returns, FunctionText, function_trees, GoodFunctions, IsProgram}
-use Rattle.c0_types.specs.declared.violation.Rule.{Rule}
-use Rattle.c0_types.specs.declared.violation.Rule.TheVariants as rule
-use Rattle.c0_types.specs.declared.violation.Violation.{Violation}
-use Rattle.c0_types.specs.declared.scope.Standing.{Standing}
-use Rattle.c0_types.specs.declared.scope.Local.{Local}
-use Rattle.c0_types.specs.Violations.{violation, unless}
-use Rattle.c0_types.specs.Scopes.{known, scope_behind, parameters_scope, function_in, function_number}
-use Rattle.c0_types.specs.Types.{same_shape, unary_shape, binary_shape, unary_typed, binary_typed, type_of, fits, argument_fits, arguments_fit, parameters_of}
-use Rattle.c0_types.specs.Rules.{operand_violations, operands_violations, expr_violations, due_violations, value_violations, argument_violations, arguments_violations, callee_violations, call_violations, right_violations, notes_violations, stmt_violations, stmts_violations, parameter_violations, contract_violations, function_violations, functions_violations, main_name, start, is_main, or_else, violations}
-use Rattle.c0_types.specs.Resolved.{unary_of, operator_of, print_of, Declared, expr_tree, exprs_tree, call_tree, right_tree, values, notes_values, joined, notes_of, locals_behind, all_behind, otherwise_of, parameter_locals, stmt_tree, stmts_tree, function_tree, functions_tree, resolved}
+use Rattle.parsed_tree.specs.declared.items.Param.{Param}
+use Rattle.parsed_tree.specs.declared.items.Side.TheVariants.{Requires, Ensures}
+use Rattle.parsed_tree.specs.declared.items.ResultType.{ResultType}
+use Rattle.parsed_tree.specs.declared.items.ResultType.TheVariants as result
+use Rattle.parsed_tree.specs.declared.items.Head.{Head}
+use Rattle.parsed_tree.specs.Tree.{local, NoteForm, assert_note, fold_note, unfold_note, NoteTree, SimpleTree, declare, assign, plain, StmtTree, simple_stmt, block_stmt, if_stmt, while_stmt, return_stmt, notes_stmt, StmtTrees, no_stmts, stmt_and, ContractTree, ItemTree, function_item, ProgramTree}
+use Rattle.c0_names.specs.declared.types.ValueType.{ValueType}
+use Rattle.c0_names.specs.declared.tables.Signature.{Signature}
+use Rattle.c0_names.specs.declared.tables.Callables.{Callables}
+use Rattle.c0_names.specs.declared.tables.Tables.{Tables}
+use Rattle.c0_names.specs.Names.{last_place}
+use Rattle.c0_names.specs.Tables.{signature_in, with_signature, value_type, param_types, result_type, head_signature, with_item, struct_names, tables_above, tables_of}
+use Rattle.c0_names.specs.Types.{int, bool, same_type}
+use Rattle.c0_rules.specs.declared.violation.Rule.TheVariants as rule
+use Rattle.c0_rules.specs.declared.violation.Violation.{Violation}
+use Rattle.c0_rules.specs.declared.scope.Standing.{Standing}
+use Rattle.c0_rules.specs.declared.scope.Scope.{Scope}
+use Rattle.c0_rules.specs.Violations.{unless}
+use Rattle.c0_rules.specs.Scopes.{no_scope, simple_behind, stmt_behind}
+use Rattle.c0_rules.specs.Expressions.{takes, expr_violations, value_violations}
+use Rattle.c0_rules.specs.Formulas.{invariants_violations}
+use Rattle.c0_rules.specs.Statements.{held_violations, declared_violations, right_violations, target_violations, simple_violations, stmt_violations, stmts_violations}
+use Rattle.c0_rules.specs.Rules.{param_behind, params_scope, head_violations, ensured, contract_violations, function_violations, library_violations, second_violations, item_violations, items_violations, main_name, start, is_main, or_others, tables_before, violations}
 use Rattle.gc0_tree.specs.Tree as core
-use Rattle.stack_code.specs.Built.{built_unary, built_binary, built_library, IsFormulaTree, AreValues, count_of, Takes, IsBuiltTree, AreBuiltTrees, IsBuiltStmt, AreBuiltStmts, ends_in_return, IsBuiltFunction, AreBuiltFunctions, IsBuilt}
-use Rattle.stack_code.specs.Built as built
+use Rattle.c0_numbers.specs.declared.frame.Frame.{Frame}
+use Rattle.c0_numbers.specs.Texts.{Texts, expr_texts, stmt_texts, item_texts}
+use Rattle.c0_numbers.specs.Formulas.{side_contracts, invariants}
+use Rattle.c0_numbers.specs.Statements.{stmt_frame, simple_tree, note_form, notes_tree, before, stmt_tree, stmts_tree}
+use Rattle.c0_numbers.specs.Resolved.{params_of, result_shape, function_tree, functions_tree, resolved}
+use Rattle.stack_code.specs.Built.{Takes, IsBuiltTree, AreBuiltTrees, IsBuiltFunction, AreBuiltFunctions, IsBuilt}
+use Rattle.stack_code.specs.Built as code
+use Rattle.built_text.specs.Forms.{AreAll, IsBuiltNote, IsBuiltSimple, IsBuiltStmt, AreBuiltStmts, is_return, ends_in_return, IsBuiltResult, IsBuiltItem, IsBuiltProgram}
+use Rattle.gradual_top.proofs.BuiltForms.{left_none, right_none, kept, Beside, IsEven, value_built, optional_built, joined_built, contracts_built, invariants_built, Known, right_built, plain_built}
 
--- ---- lists without violations
-left_none : (a b : List Violation) → a ++ b ≡ [] → a ≡ []
-left_none [] b e = refl
-left_none (v ∷ a) b e = let n : ⊥ = cc in absurd n
+-- ---- there stay as many standings as names
+one_more : (ns : List (List ℕ)) (ss : List Standing) (n : List ℕ) (s : Standing) → Beside ns ss → Beside (ns ++ n ∷ []) (ss ++ s ∷ [])
+one_more [] [] n s b = tt
+one_more [] (u ∷ ss) n s b = absurd b
+one_more (m ∷ ns) [] n s b = absurd b
+one_more (m ∷ ns) (u ∷ ss) n s b = one_more ns ss n s b
 
-right_none : (a b : List Violation) → a ++ b ≡ [] → b ≡ []
-right_none [] b e = e
-right_none (v ∷ a) b e = let n : ⊥ = cc in absurd n
+params_even : (t : Tables) (fixed : List (List ℕ)) (scope : Scope) (ps : List Param) → IsEven scope → IsEven (params_scope t fixed scope ps)
+params_even t fixed scope [] v = v
+params_even t fixed scope (p ∷ ps) v = params_even t fixed (param_behind t fixed scope p) ps (one_more scope.names scope.standings _ _ v)
 
-kept : (b : Bool) (r : Rule) (p : Place) → unless b r p ≡ [] → b ≡ true
-kept true r p e = refl
-kept false r p e = let n : ⊥ = cc in absurd n
+simple_even : (t : Tables) (scope : Scope) (s : SimpleTree) → IsBuiltSimple s → IsEven scope → IsEven (simple_behind t scope s)
+simple_even t scope (declare ty n (Some x)) g v = one_more scope.names scope.standings _ _ v
+simple_even t scope (assign (local s n) q None y) g v = v
+simple_even t scope (plain e) g v = v
+simple_even t scope s g v = absurd g
 
-holds : (b : Bool) → b ≡ true → IsTrue b
-holds b e = e
-
--- ---- an expression without violations has a type
-unary_some : (at : Place) (o : UnaryOperator) (t : Option Shape) → is_some t ≡ true → operand_violations at o t ≡ [] → is_some (unary_typed o t) ≡ true
-unary_some at o None s e = let n : ⊥ = cc in absurd n
-unary_some at o (Some t) s e = kept (is_some (unary_shape o t)) rule.WrongType at e
-
-binary_some : (at : Place) (o : Operator) (t u : Option Shape) → is_some t ≡ true → is_some u ≡ true → operands_violations at o t u ≡ [] → is_some (binary_typed o t u) ≡ true
-binary_some at o None u s q e = let n : ⊥ = cc in absurd n
-binary_some at o (Some t) None s q e = let n : ⊥ = cc in absurd n
-binary_some at o (Some t) (Some u) s q e = kept (is_some (binary_shape o t u)) rule.WrongType at e
-
-known_some : (k : Option Standing) → is_some k ≡ true → is_some (option_map (λ x. x.shape) k) ≡ true
-known_some None e = let n : ⊥ = cc in absurd n
-known_some (Some k) e = refl
-
-typed : (scope : List Local) (r : Option Shape) (e : ExprTree) → expr_violations scope r e ≡ [] → is_some (type_of scope r e) ≡ true
-typed scope r (number at w) h = refl
-typed scope r (truth at b) h = refl
-typed scope r (local at n) h = known_some (known scope n) (kept (is_some (known scope n)) rule.Unknown at.place h)
-typed scope r (outcome at) h = kept (is_some r) rule.Unknown at.place h
-typed scope r (unary at o x) h =
-    let a = expr_violations scope r x in
-    let b = operand_violations at.place o (type_of scope r x) in
-    unary_some at.place o (type_of scope r x) (typed scope r x (left_none a b h)) (right_none a b h)
-typed scope r (binary at o x y) h =
-    let a = expr_violations scope r x in
-    let b = expr_violations scope r y in
-    let c = operands_violations at.place o (type_of scope r x) (type_of scope r y) in
-    let h2 = right_none a (b ++ c) h in
-    binary_some at.place o (type_of scope r x) (type_of scope r y) (typed scope r x (left_none a (b ++ c) h)) (typed scope r y (left_none b c h2)) (right_none b c h2)
-
--- ---- and code
-unary_built : (o : UnaryOperator) → IsTrue (built_unary (unary_of o))
-unary_built Negate = refl
-unary_built Not = refl
-
-binary_built : (o : Operator) → IsTrue (built_binary (operator_of o))
-binary_built op.Mul = refl
-binary_built op.Add = refl
-binary_built op.Sub = refl
-binary_built op.Less = refl
-binary_built op.LessEq = refl
-binary_built op.Greater = refl
-binary_built op.GreaterEq = refl
-binary_built op.Equal = refl
-binary_built op.NotEqual = refl
-
-print_built : (s : Shape) → IsTrue (built_library (print_of s))
-print_built Int = refl
-print_built Truth = refl
-
-expr_built : (fs : List core.Function) (ls : Declared) (scope : List Local) (e : ExprTree) → expr_violations scope None e ≡ [] → IsBuiltTree fs (expr_tree ls e)
-expr_built fs ls scope (number at w) h = tt
-expr_built fs ls scope (truth at b) h = tt
-expr_built fs ls scope (local at n) h = tt
-expr_built fs ls scope (outcome at) h = let n : ⊥ = cc in absurd n
-expr_built fs ls scope (unary at o x) h =
-    (unary_built o, expr_built fs ls scope x (left_none (expr_violations scope None x) _ h))
-expr_built fs ls scope (binary at o x y) h =
-    let a = expr_violations scope None x in
-    let b = expr_violations scope None y in
-    let c = operands_violations at.place o (type_of scope None x) (type_of scope None y) in
-    (binary_built o, expr_built fs ls scope x (left_none a (b ++ c) h), expr_built fs ls scope y (left_none b c (right_none a (b ++ c) h)))
-
--- ---- calls
-argument_expr : (scope : List Local) (p : Option Parameter) (e : ExprTree) → argument_violations scope p e ≡ [] → expr_violations scope None e ≡ []
-argument_expr scope None e h = h
-argument_expr scope (Some p) e h = left_none (expr_violations scope None e) _ h
-
-due_fits : (at : Place) (due : Shape) (t : Option Shape) → is_some t ≡ true → due_violations at due t ≡ [] → fits due t ≡ true
-due_fits at due None s e = let n : ⊥ = cc in absurd n
-due_fits at due (Some t) s e = kept (same_shape due t) rule.WrongType at e
-
-one_fits : (scope : List Local) (p : Option Parameter) (e : ExprTree) → argument_violations scope p e ≡ [] → argument_fits scope p e ≡ true
-one_fits scope None e h = typed scope None e h
-one_fits scope (Some p) e h =
-    let a = expr_violations scope None e in
-    let b = due_violations (spot_of e).first p.typed.shape (type_of scope None e) in
-    due_fits (spot_of e).first p.typed.shape (type_of scope None e) (typed scope None e (left_none a b h)) (right_none a b h)
-
-both : (a b : Bool) → a ≡ true → b ≡ true → a && b ≡ true
-both true b x y = y
-both false b x y = x
-
-all_fit : (scope : List Local) (ps : List Parameter) (i : ℕ) (es : List ExprTree) → arguments_violations scope ps i es ≡ [] → arguments_fit scope ps i es ≡ true
-all_fit scope ps i [] h = refl
-all_fit scope ps i (e ∷ es) h =
-    let a = argument_violations scope (slice_get ps i) e in
-    let b = arguments_violations scope ps (i + 1) es in
-    both (argument_fits scope (slice_get ps i) e) (arguments_fit scope ps (i + 1) es) (one_fits scope (slice_get ps i) e (left_none a b h)) (all_fit scope ps (i + 1) es (right_none a b h))
-
-arguments_built : (fs : List core.Function) (ls : Declared) (scope : List Local) (ps : List Parameter) (i : ℕ) (es : List ExprTree) → arguments_violations scope ps i es ≡ [] → AreBuiltTrees fs (exprs_tree ls es)
-arguments_built fs ls scope ps i [] h = tt
-arguments_built fs ls scope ps i (e ∷ es) h =
-    let a = argument_violations scope (slice_get ps i) e in
-    let b = arguments_violations scope ps (i + 1) es in
-    (expr_built fs ls scope e (argument_expr scope (slice_get ps i) e (left_none a b h)), arguments_built fs ls scope ps (i + 1) es (right_none a b h))
-
-counted : (ls : Declared) (es : List ExprTree) → count_of (exprs_tree ls es) ≡ length es
-counted ls [] = refl
-counted ls (e ∷ es) = ap suc (counted ls es)
-
--- the function of a name has its number
-found : (all fs : List FunctionTree) (name : List ℕ) (n : ℕ) → is_some (function_in fs name) ≡ true → length (parameters_of (function_in fs name)) ≡ n → Takes (slice_get (functions_tree all fs) (function_number fs name)) n
-found all [] name n s e = let x : ⊥ = cc in absurd x
-found all (f ∷ fs) name n s e =
-    (elim (bytes_eq f.name.name name) as (λ t. is_some (cond t (Some f) (function_in fs name)) ≡ true → length (parameters_of (cond t (Some f) (function_in fs name))) ≡ n → Takes (slice_get (function_tree all f ∷ functions_tree all fs) (cond t zero (suc (function_number fs name)))) n) [
-      | true ↦ λ s e. e
-      | false ↦ λ s e. found all fs name n s e
-    ]) s e
-
-callee_some : (at : Place) (f : Option FunctionTree) (n : ℕ) → callee_violations at f n ≡ [] → is_some f ≡ true
-callee_some at None n e = let x : ⊥ = cc in absurd x
-callee_some at (Some f) n e = refl
-
-callee_counts : (at : Place) (f : Option FunctionTree) (n : ℕ) → callee_violations at f n ≡ [] → length (parameters_of f) ≡ n
-callee_counts at None n e = let x : ⊥ = cc in absurd x
-callee_counts at (Some f) n e = eqb-true (length f.parameters) n (kept (eqb (length f.parameters) n) rule.WrongCount at e)
-
-call_built : (fs : List FunctionTree) (ls : Declared) (scope : List Local) (c : CallTree) → call_violations fs scope c ≡ [] → IsBuiltTree (functions_tree fs fs) (call_tree fs ls c)
-call_built fs ls scope c h =
-    let f = function_in fs c.name.name in
-    let a = arguments_violations scope (parameters_of f) 0 c.arguments in
-    let q = callee_violations c.name.place f (length c.arguments) in
-    let b = cond (arguments_fit scope (parameters_of f) 0 c.arguments) q [] in
-    let ha = left_none a b h in
-    let hq : q ≡ [] = ap (λ t. cond t q []) (sym (all_fit scope (parameters_of f) 0 c.arguments ha)) ∙ right_none a b h in
-    (found fs fs c.name.name (count_of (exprs_tree ls c.arguments)) (callee_some c.name.place f (length c.arguments) hq) (callee_counts c.name.place f (length c.arguments) hq ∙ sym (counted ls c.arguments)), arguments_built (functions_tree fs fs) ls scope (parameters_of f) 0 c.arguments ha)
-
-right_built : (fs : List FunctionTree) (ls : Declared) (scope : List Local) (r : RightTree) → right_violations fs scope r ≡ [] → IsBuiltTree (functions_tree fs fs) (right_tree fs ls r)
-right_built fs ls scope (value e) h = expr_built (functions_tree fs fs) ls scope e h
-right_built fs ls scope (call c) h = call_built fs ls scope c h
-
--- ---- formulas have code, whatever their types
-formula_expr : (ls : Declared) (e : ExprTree) → IsFormulaTree (expr_tree ls e)
-formula_expr ls (number at w) = tt
-formula_expr ls (truth at b) = tt
-formula_expr ls (local at n) = tt
-formula_expr ls (outcome at) = tt
-formula_expr ls (unary at o x) = (unary_built o, formula_expr ls x)
-formula_expr ls (binary at o x y) = (binary_built o, formula_expr ls x, formula_expr ls y)
-
-values_built : (ls : Declared) (es : List ExprTree) (rest : core.Conjuncts) → AreValues rest → AreValues (values ls es rest)
-values_built ls [] rest h = h
-values_built ls (e ∷ es) rest h = (formula_expr ls e, values_built ls es rest h)
-
-notes_built : (ls : Declared) (ns : List NoteTree) → AreValues (notes_values ls ns core.no_parts)
-notes_built ls [] = tt
-notes_built ls (n ∷ ns) = values_built ls n.formula.conjuncts (notes_values ls ns core.no_parts) (notes_built ls ns)
+stmt_even : (t : Tables) (scope : Scope) (s : StmtTree) → IsBuiltStmt s → IsEven scope → IsEven (stmt_behind t scope s)
+stmt_even t scope (simple_stmt s) g v = simple_even t scope s g v
+stmt_even t scope (if_stmt p e s os) g v = v
+stmt_even t scope (while_stmt p e is s) g v = v
+stmt_even t scope (return_stmt p e) g v = v
+stmt_even t scope (notes_stmt p ns) g v = v
+stmt_even t scope s g v = absurd g
 
 -- ---- statements
-otherwise_built : (fs : List core.Function) (p : Place) (ss : core.Stmts) → AreBuiltStmts fs ss → AreBuiltStmts fs (otherwise_of p ss)
-otherwise_built fs p core.no_stmts h = tt
-otherwise_built fs p (core.stmt_and s ss) h = (h, tt)
+note_built : (fs : List core.Function) (u : Tables) (f : Frame) (p : Place) (n : NoteForm) → IsBuiltNote (record { place = p; form = n }) → code.IsBuiltStmt fs (note_form u f p n)
+note_built fs u f p (assert_note g) b = optional_built u f false g b core.no_parts tt
+note_built fs u f p (fold_note i) b = absurd b
+note_built fs u f p (unfold_note i) b = absurd b
 
-value_built : (fs : List core.Function) (ls : Declared) (scope : List Local) (due : Shape) (e : ExprTree) → value_violations scope None due e ≡ [] → IsBuiltTree fs (expr_tree ls e)
-value_built fs ls scope due e h = expr_built fs ls scope e (left_none (expr_violations scope None e) _ h)
+before_built : (fs : List core.Function) (u : Tables) (f : Frame) (s : StmtTree) → IsBuiltStmt s → (x : core.Stmt) → code.IsBuiltStmt fs x → (rest : core.Stmts) → code.AreBuiltStmts fs rest → code.AreBuiltStmts fs (before u f s x rest)
+before_built fs u f (notes_stmt p []) g x b rest c = absurd g
+before_built fs u f (notes_stmt p (n ∷ [])) g x b rest c = (note_built fs u f n.place n.form g, c)
+before_built fs u f (notes_stmt p (n ∷ m ∷ ns)) g x b rest c = absurd g
+before_built fs u f s g x b rest c = (b, c)
+
+simple_built : (fs : List core.Function) (t u : Tables) → Known fs t u → (scope : Scope) → IsEven scope → (f : Frame) (ts : Texts) (s : SimpleTree) → IsBuiltSimple s → simple_violations t scope s ≡ [] → code.IsBuiltStmt fs (simple_tree u f ts s)
+simple_built fs t u known scope v f ts (declare ty n (Some x)) g h =
+    let a = held_violations t ty in
+    let b = declared_violations scope n in
+    let c = right_violations t scope (value_type t ty) (Some x) in
+    let e = expr_violations t scope None x.1 in
+    (refl, (right_built fs t u known scope v f ts x.1 g.1 (left_none e _ (right_none b c (right_none a (b ++ c) h))), tt))
+simple_built fs t u known scope v f ts (assign (local s n) q None y) g h =
+    let e = expr_violations t scope None y in
+    right_built fs t u known scope v f ts y g (left_none e _ (right_none (target_violations t scope false (local s n)) _ h))
+simple_built fs t u known scope v f ts (plain e) g h = plain_built fs t u known scope v f ts e g h
+simple_built fs t u known scope v f ts s g h = absurd g
 
 mutual
-  stmt_built : (fs : List FunctionTree) (r : Shape) (ls : Declared) (scope : List Local) (s : StmtTree) → stmt_violations fs r scope s ≡ [] → IsBuiltStmt (functions_tree fs fs) (stmt_tree fs ls s)
-  stmt_built fs r ls scope (declare t n q v) h = (refl, (right_built fs ls scope v (left_none (right_violations fs scope v) _ (right_none _ _ h)), tt))
-  stmt_built fs r ls scope (assign n q v) h = right_built fs ls scope v (left_none (right_violations fs scope v) _ (right_none _ _ h))
-  stmt_built fs r ls scope (call_stmt c) h = call_built fs ls scope c h
-  stmt_built fs r ls scope (print_stmt p s e) h = (print_built s, refl, (value_built (functions_tree fs fs) ls scope s e h, tt))
-  stmt_built fs r ls scope (return_stmt p e) h = (refl, (value_built (functions_tree fs fs) ls scope r e h, tt))
-  stmt_built fs r ls scope (if_stmt p e ss os) h =
-      let a = value_violations scope None Truth e in
-      let b = stmts_violations fs r scope ss in
-      let c = stmts_violations fs r scope os in
-      let h2 = right_none a (b ++ c) h in
-      (value_built (functions_tree fs fs) ls scope Truth e (left_none a (b ++ c) h), stmts_built fs r ls scope ss (left_none b c h2), otherwise_built (functions_tree fs fs) p (stmts_tree fs (all_behind ls ss) os) (stmts_built fs r (all_behind ls ss) scope os (right_none b c h2)))
-  stmt_built fs r ls scope (while_stmt p e ns ss) h =
-      let a = value_violations scope None Truth e in
-      let b = notes_violations scope ns in
-      let c = stmts_violations fs r scope ss in
-      (notes_built ls ns, value_built (functions_tree fs fs) ls scope Truth e (left_none a (b ++ c) h), stmts_built fs r ls scope ss (right_none b c (right_none a (b ++ c) h)))
-  stmt_built fs r ls scope (assert_stmt n) h = values_built ls n.formula.conjuncts core.no_parts tt
+  stmt_built : (fs : List core.Function) (t u : Tables) → Known fs t u → (r : ValueType) (scope : Scope) → IsEven scope → (f : Frame) (ts : Texts) (s : StmtTree) → IsBuiltStmt s → stmt_violations t r scope s ≡ [] → code.IsBuiltStmt fs (stmt_tree u f ts s)
+  stmt_built fs t u known r scope v f ts (simple_stmt s) g h = simple_built fs t u known scope v f ts s g h
+  stmt_built fs t u known r scope v f ts (if_stmt p e (block_stmt q ss) no_stmts) g h =
+      let a = value_violations t scope None bool e in
+      let b = stmts_violations t r scope ss in
+      (value_built fs u f ts e g.0, stmts_built fs t u known r scope v f (expr_texts ts e) ss g.1 (left_none b [] (right_none a (b ++ []) h)), tt)
+  stmt_built fs t u known r scope v f ts (if_stmt p e (block_stmt q ss) (stmt_and (block_stmt w os) no_stmts)) g h =
+      let a = value_violations t scope None bool e in
+      let b = stmts_violations t r scope ss in
+      let c = stmts_violations t r scope os in
+      let k = right_none a (b ++ (c ++ [])) h in
+      let body = block_stmt q ss in
+      (value_built fs u f ts e g.0, stmts_built fs t u known r scope v f (expr_texts ts e) ss g.1 (left_none b (c ++ []) k), (stmts_built fs t u known r scope v (stmt_frame u f body) (stmt_texts (expr_texts ts e) body) os g.2 (left_none c [] (right_none b (c ++ []) k)), tt))
+  stmt_built fs t u known r scope v f ts (while_stmt p e is (block_stmt q ss)) g h =
+      let a = value_violations t scope None bool e in
+      let b = invariants_violations t scope is in
+      let c = stmts_violations t r scope ss in
+      (joined_built u f (invariants is) (invariants_built is g.1), value_built fs u f ts e g.0, stmts_built fs t u known r scope v f (expr_texts ts e) ss g.2 (right_none b c (right_none a (b ++ c) h)))
+  stmt_built fs t u known r scope v f ts (return_stmt p (Some e)) g h = (refl, (value_built fs u f ts e g, tt))
+  stmt_built fs t u known r scope v f ts (notes_stmt p (n ∷ [])) g h = note_built fs u f n.place n.form g
+  stmt_built fs t u known r scope v f ts s g h = absurd g
 
-  stmts_built : (fs : List FunctionTree) (r : Shape) (ls : Declared) (scope : List Local) (ss : StmtTrees) → stmts_violations fs r scope ss ≡ [] → AreBuiltStmts (functions_tree fs fs) (stmts_tree fs ls ss)
-  stmts_built fs r ls scope no_stmts h = tt
-  stmts_built fs r ls scope (stmt s ss) h =
-      let a = stmt_violations fs r scope s in
-      let b = stmts_violations fs r (scope_behind scope s) ss in
-      (stmt_built fs r ls scope s (left_none a b h), stmts_built fs r (locals_behind ls s) (scope_behind scope s) ss (right_none a b h))
+  stmts_built : (fs : List core.Function) (t u : Tables) → Known fs t u → (r : ValueType) (scope : Scope) → IsEven scope → (f : Frame) (ts : Texts) (ss : StmtTrees) → AreBuiltStmts ss → stmts_violations t r scope ss ≡ [] → code.AreBuiltStmts fs (stmts_tree u f ts ss)
+  stmts_built fs t u known r scope v f ts no_stmts g h = tt
+  stmts_built fs t u known r scope v f ts (stmt_and s ss) g h =
+      let a = stmt_violations t r scope s in
+      let b = stmts_violations t r (stmt_behind t scope s) ss in
+      before_built fs u f s g.0 (stmt_tree u f ts s) (stmt_built fs t u known r scope v f ts s g.0 (left_none a b h)) (stmts_tree u (stmt_frame u f s) (stmt_texts ts s) ss) (stmts_built fs t u known r (stmt_behind t scope s) (stmt_even t scope s g.0 v) (stmt_frame u f s) (stmt_texts ts s) ss g.1 (right_none a b h))
 
 -- ---- a body ends in a `return`
-return_ends : (fs : List FunctionTree) (ls : Declared) (s : StmtTree) → is_return s ≡ true → IsTrue (built.is_return (stmt_tree fs ls s))
-return_ends fs ls (declare t n q v) h = let x : ⊥ = cc in absurd x
-return_ends fs ls (assign n q v) h = let x : ⊥ = cc in absurd x
-return_ends fs ls (call_stmt c) h = let x : ⊥ = cc in absurd x
-return_ends fs ls (print_stmt p s e) h = let x : ⊥ = cc in absurd x
-return_ends fs ls (return_stmt p e) h = refl
-return_ends fs ls (if_stmt p e ss os) h = let x : ⊥ = cc in absurd x
-return_ends fs ls (while_stmt p e ns ss) h = let x : ⊥ = cc in absurd x
-return_ends fs ls (assert_stmt n) h = let x : ⊥ = cc in absurd x
+abbrev Ends : core.Stmts → Type 0
+Ends ss = IsTrue (code.ends_in_return ss)
 
-last_ends : (fs : List FunctionTree) (ls : Declared) (s : StmtTree) (ss : StmtTrees) → last_returns (is_return s) ss ≡ true → IsTrue (ends_in_return (core.stmt_and (stmt_tree fs ls s) (stmts_tree fs (locals_behind ls s) ss)))
-last_ends fs ls s no_stmts h = return_ends fs ls s h
-last_ends fs ls s (stmt t ss) h = last_ends fs (locals_behind ls s) t ss h
+last_ends : (u : Tables) (f : Frame) (ts : Texts) (s : StmtTree) → is_return s ≡ true → Ends (before u f s (stmt_tree u f ts s) core.no_stmts)
+last_ends u f ts (return_stmt p e) h = refl
+last_ends u f ts s h = let n : ⊥ = cc in absurd n
 
-body_ends : (fs : List FunctionTree) (ls : Declared) (ss : StmtTrees) → last_returns false ss ≡ true → IsTrue (ends_in_return (stmts_tree fs ls ss))
-body_ends fs ls no_stmts h = let x : ⊥ = cc in absurd x
-body_ends fs ls (stmt s ss) h = last_ends fs ls s ss h
+behind_ends : (x : core.Stmt) (rest : core.Stmts) → Ends rest → Ends (core.stmt_and x rest)
+behind_ends x core.no_stmts h = let n : ⊥ = cc in absurd n
+behind_ends x (core.stmt_and y ss) h = h
+
+notes_end : (u : Tables) (f : Frame) (ns : List NoteTree) (rest : core.Stmts) → Ends rest → Ends (notes_tree u f ns rest)
+notes_end u f [] rest h = h
+notes_end u f (n ∷ ns) rest h = behind_ends (note_form u f n.place n.form) (notes_tree u f ns rest) (notes_end u f ns rest h)
+
+before_ends : (u : Tables) (f : Frame) (s : StmtTree) (x : core.Stmt) (rest : core.Stmts) → Ends rest → Ends (before u f s x rest)
+before_ends u f (notes_stmt p ns) x rest h = notes_end u f ns rest h
+before_ends u f s x rest h = behind_ends x rest h
+
+body_ends : (u : Tables) (f : Frame) (ts : Texts) (ss : StmtTrees) → ends_in_return ss ≡ true → Ends (stmts_tree u f ts ss)
+body_ends u f ts no_stmts h = let n : ⊥ = cc in absurd n
+body_ends u f ts (stmt_and s no_stmts) h = last_ends u f ts s h
+body_ends u f ts (stmt_and s (stmt_and r ss)) h = before_ends u f s (stmt_tree u f ts s) (stmts_tree u (stmt_frame u f s) (stmt_texts ts s) (stmt_and r ss)) (body_ends u (stmt_frame u f s) (stmt_texts ts s) (stmt_and r ss) h)
 
 -- ---- functions
-abbrev pub AllReturn : List FunctionTree → Type 0
-AllReturn [] = Unit {0}
-AllReturn (f ∷ fs) = (last_returns false f.body ≡ true) × AllReturn fs
+result_some : (u : Tables) (r : ResultType) → IsBuiltResult r → IsTrue (is_some (result_shape u r))
+result_some u (result.Void p) g = absurd g
+result_some u (result.Typed t) g = refl
 
-functions_built : (all : List FunctionTree) (i : ℕ) (fs : List FunctionTree) → AllReturn fs → functions_violations all i fs ≡ [] → AreBuiltFunctions (functions_tree all all) (functions_tree all fs)
-functions_built all i [] q h = tt
-functions_built all i (f ∷ fs) q h =
-    let a = unless (eqb (function_number all f.name.name) i) rule.Twice f.name.place in
-    let b = function_violations all f in
-    let c = functions_violations all (i + 1) fs in
-    let h2 = right_none a (b ++ c) h in
-    let scope = parameters_scope f.contract [] f.parameters in
-    let hs : stmts_violations all f.typed.shape scope f.body ≡ [] = right_none (contract_violations scope f.typed.shape f.contract) _ (right_none (parameter_violations f.contract [] f.parameters) _ (left_none b c h2)) in
-    let ls = parameter_locals f.parameters in
-    (record { has_result = refl; before = notes_built ls (notes_of Requires f.contract); after = notes_built ls (notes_of Ensures f.contract); body = stmts_built all f.typed.shape ls scope f.body hs; returns = body_ends all ls f.body q.0 }, functions_built all (i + 1) fs q.1 (right_none b c h2))
+-- what stands in the violations of a function
+statements_none : (t above : Tables) (h : Head) (cs : List ContractTree) (ss : StmtTrees) (e : Place) → item_violations t above (function_item h cs ss e) ≡ [] → stmts_violations t (result_type t h.result) (params_scope t (ensured cs) no_scope h.params) ss ≡ []
+statements_none t above h cs ss e n =
+    let r = result_type t h.result in
+    let scope = params_scope t (ensured cs) no_scope h.params in
+    let a = library_violations h.name in
+    let b = second_violations above.functions.names h.name in
+    let c = head_violations t (ensured cs) h in
+    let d = function_violations t scope r cs ss e in
+    let k = right_none (contract_violations t scope r cs) _ (right_none c d (right_none b (c ++ d) (right_none a (b ++ (c ++ d)) n))) in
+    left_none (stmts_violations t r scope ss) _ k
 
-first_none : (a b : List Violation) → or_else a b ≡ [] → a ≡ []
-first_none [] b e = refl
-first_none (v ∷ a) b e = let n : ⊥ = cc in absurd n
+second_none : (t above : Tables) (h : Head) (cs : List ContractTree) (ss : StmtTrees) (e : Place) → item_violations t above (function_item h cs ss e) ≡ [] → not (is_some (last_place above.functions.names h.name.name)) ≡ true
+second_none t above h cs ss e n =
+    let a = library_violations h.name in
+    let b = second_violations above.functions.names h.name in
+    kept (not (is_some (last_place above.functions.names h.name.name))) rule.Twice h.name.place (left_none b _ (right_none a _ n))
 
-second_none : (a b : List Violation) → or_else a b ≡ [] → b ≡ []
-second_none [] b e = e
-second_none (v ∷ a) b e = let n : ⊥ = cc in absurd n
+functions_built : (fs : List core.Function) (t u : Tables) → Known fs t u → (above : Tables) (ts : Texts) (is : List ItemTree) → AreAll IsBuiltItem is → items_violations t above is ≡ [] → AreBuiltFunctions fs (functions_tree u ts is)
+functions_built fs t u known above ts [] g n = tt
+functions_built fs t u known above ts (function_item h cs ss e ∷ is) g n =
+    let i = g.0 in
+    let item = function_item h cs ss e in
+    let a = item_violations t above item in
+    let b = items_violations t (with_item above item) is in
+    let scope = params_scope t (ensured cs) no_scope h.params in
+    let frame : Frame = record { locals = params_of u h.params; result = result_type u h.result } in (
+      record {
+        has_result = result_some u h.result i.0;
+        before = joined_built u frame (side_contracts Requires cs) (contracts_built Requires cs i.2);
+        after = joined_built u frame (side_contracts Ensures cs) (contracts_built Ensures cs i.2);
+        body = stmts_built fs t u known (result_type t h.result) scope (params_even t (ensured cs) no_scope h.params tt) frame ts ss i.3 (statements_none t above h cs ss e (left_none a b n));
+        returns = body_ends u frame ts ss i.4;
+      },
+      functions_built fs t u known (with_item above item) (item_texts ts item) is g.1 (right_none a b n),
+    )
+functions_built fs t u known above ts (i ∷ is) g n = absurd g.0
 
-main_some : (f : Option FunctionTree) → is_main f ≡ true → is_some f ≡ true
-main_some None e = let n : ⊥ = cc in absurd n
-main_some (Some f) e = refl
+-- ---- the functions of the tables stand at their numbers, since no name is defined twice: for each signature a function with as many parameters
+abbrev Aligned : List Signature → List core.Function → Type 0
+Aligned [] [] = Unit {0}
+Aligned [] (f ∷ fs) = ⊥
+Aligned (s ∷ ss) [] = ⊥
+Aligned (s ∷ ss) (f ∷ fs) = (f.params ≡ length s.params) × Aligned ss fs
+
+one_aligned : (ss : List Signature) (fs : List core.Function) (s : Signature) (f : core.Function) → Aligned ss fs → f.params ≡ length s.params → Aligned (ss ++ s ∷ []) (fs ++ f ∷ [])
+one_aligned [] [] s f a e = (e, tt)
+one_aligned [] (g ∷ fs) s f a e = absurd a
+one_aligned (r ∷ ss) [] s f a e = absurd a
+one_aligned (r ∷ ss) (g ∷ fs) s f a e = (a.0, one_aligned ss fs s f a.1 e)
+
+params_counted : (t : Tables) (ps : List Param) → length ps ≡ length (param_types t ps)
+params_counted t [] = refl
+params_counted t (p ∷ ps) = ap suc (params_counted t ps)
+
+otherwise : {A : Type 0} (b : Bool) (x y : A) → not b ≡ true → (if b then x else y) ≡ y
+otherwise true x y h = let n : ⊥ = cc in absurd n
+otherwise false x y h = refl
+
+signed : (c : Callables) (name : List ℕ) (s : Signature) → not (is_some (last_place c.names name)) ≡ true → (with_signature c name s).signatures ≡ c.signatures ++ s ∷ []
+signed c name s h = ap (λ d. d.signatures) (otherwise (is_some (last_place c.names name)) c (record { names = c.names ++ name ∷ []; signatures = c.signatures ++ s ∷ [] }) h)
+
+all_aligned : (t u above : Tables) (ts : Texts) (is : List ItemTree) (fs : List core.Function) → AreAll IsBuiltItem is → items_violations t above is ≡ [] → Aligned above.functions.signatures fs → Aligned (fold with_item above is).functions.signatures (fs ++ functions_tree u ts is)
+all_aligned t u above ts [] fs g n a = subst (Aligned above.functions.signatures) (sym (append-nil fs)) a
+all_aligned t u above ts (function_item h cs ss e ∷ is) fs g n a =
+    let item = function_item h cs ss e in
+    let next = with_item above item in
+    let f = function_tree u ts h cs ss e in
+    let s = head_signature above h in
+    let b = item_violations t above item in
+    let c = items_violations t next is in
+    let new = signed above.functions h.name.name s (second_none t above h cs ss e (left_none b c n)) in
+    let more : Aligned next.functions.signatures (fs ++ f ∷ []) = subst (λ l. Aligned l (fs ++ f ∷ [])) (sym new) (one_aligned above.functions.signatures fs s f a (params_counted above h.params)) in
+    subst (Aligned (fold with_item next is).functions.signatures) (append_assoc fs (f ∷ []) (functions_tree u (item_texts ts item) is)) (all_aligned t u next (item_texts ts item) is (fs ++ f ∷ []) g.1 (right_none b c n) more)
+all_aligned t u above ts (i ∷ is) fs g n a = absurd g.0
+
+at_number : (ss : List Signature) (fs : List core.Function) → Aligned ss fs → (i n : ℕ) → takes (slice_get ss i) n ≡ true → Takes (slice_get fs i) n
+at_number [] [] a i n h = let x : ⊥ = cc in absurd x
+at_number [] (f ∷ fs) a i n h = absurd a
+at_number (s ∷ ss) [] a i n h = absurd a
+at_number (s ∷ ss) (f ∷ fs) a zero n h = a.0 ∙ eqb-true (length s.params) n h
+at_number (s ∷ ss) (f ∷ fs) a (suc i) n h = at_number ss fs a.1 i n h
+
+at_place : (ss : List Signature) (fs : List core.Function) → Aligned ss fs → (i : Option ℕ) (n : ℕ) → takes (option_and_then (slice_get ss) i) n ≡ true → Takes (slice_get fs (unwrap_or i 0)) n
+at_place ss fs a None n h = let x : ⊥ = cc in absurd x
+at_place ss fs a (Some i) n h = at_number ss fs a i n h
+
+all_known : (fs : List core.Function) (u : Tables) → Aligned u.functions.signatures fs → Known fs u u
+all_known fs u a name n h = at_place u.functions.signatures fs a (last_place u.functions.names name) n h
+
+-- ---- programs
+first_of_both : (a b : List Violation) → or_others a b ≡ [] → a ≡ []
+first_of_both [] b e = refl
+first_of_both (v ∷ a) b e = let n : ⊥ = cc in absurd n
+
+second_of_both : (a b : List Violation) → or_others a b ≡ [] → b ≡ []
+second_of_both [] b e = e
+second_of_both (v ∷ a) b e = let n : ⊥ = cc in absurd n
 
 second_true : (a b : Bool) → a && b ≡ true → b ≡ true
 second_true true b e = e
 second_true false b e = let n : ⊥ = cc in absurd n
 
-main_counts : (f : Option FunctionTree) → is_main f ≡ true → length (parameters_of f) ≡ 0
-main_counts None e = let n : ⊥ = cc in absurd n
-main_counts (Some f) e = eqb-true (length f.parameters) 0 (second_true (same_shape Int f.typed.shape) (eqb (length f.parameters) 0) e)
+main_takes : (s : Option Signature) → is_main s ≡ true → takes s 0 ≡ true
+main_takes None e = let n : ⊥ = cc in absurd n
+main_takes (Some s) e = second_true (same_type s.result int) (eqb (length s.params) 0) e
 
--- a program whose bodies end in a `return`
-pub returning_built : (p : ProgramTree) → AllReturn p.functions → violations p ≡ [] → IsBuilt (resolved p)
-returning_built p q h =
-    let m = function_in p.functions main_name in
-    let hm : is_main m ≡ true = kept (is_main m) rule.NoMain start (second_none (functions_violations p.functions 0 p.functions) _ h) in
+-- a program of the built forms
+pub program_built : (p : ProgramTree) → IsBuiltProgram p → violations p ≡ [] → IsBuilt (resolved p)
+program_built p g h =
+    let t = tables_before p in
+    let u = tables_of p in
+    let start_tables = tables_above (struct_names p) in
+    let fs = functions_tree u [] p.items in
+    let m = is_main (signature_in u.functions main_name) in
+    let a = items_violations t start_tables p.items in
+    let b = unless m rule.NoMain start in
+    let items = first_of_both a b h in
+    let main = kept m rule.NoMain start (second_of_both a b h) in
+    let known = all_known fs u (all_aligned t u start_tables [] p.items [] g items tt) in
     record {
-      functions = functions_built p.functions 0 p.functions q (first_none _ _ h);
-      main = found p.functions p.functions main_name 0 (main_some m hm) (main_counts m hm);
+      functions = functions_built fs t u known start_tables [] p.items g items;
+      main = known main_name 0 (main_takes (signature_in u.functions main_name) main);
     }
-
-good_returns : (fs : List FunctionText) → GoodFunctions fs → AllReturn (function_trees fs)
-good_returns [] g = tt
-good_returns (f ∷ fs) g = (g.0.returned, good_returns fs g.1)
-
--- a program of the grammar
-pub program_built : (ts : List Token) (p : ProgramTree) → IsProgram ts p → violations p ≡ [] → IsBuilt (resolved p)
-program_built ts p g h = returning_built p (subst (λ q. AllReturn q.functions) (sym g.tree) (good_returns g.functions g.good)) h

@@ -15,15 +15,15 @@ use Rattle.c0_parse.specs.declared.fault.ParseFault.{ParseFault}
 use Rattle.c0_parse.specs.declared.fault.ParseFault.TheVariants as parse
 use Rattle.c0_parse.specs.TreeFaults.{tree_faults}
 use Rattle.c0_parse.specs.Causes.{HasCause}
-use Rattle.c0_types.specs.declared.violation.TypeFault.{TypeFault}
-use Rattle.c0_types.specs.declared.violation.TypeFault.TheVariants as typed
-use Rattle.c0_types.specs.Violations.{least_of, fault_of, Reports}
-use Rattle.c0_types.specs.Rules.{violations}
+use Rattle.c0_rules.specs.declared.violation.TypeFault.{TypeFault}
+use Rattle.c0_rules.specs.declared.violation.TypeFault.TheVariants as typed
+use Rattle.c0_rules.specs.Violations.{least_of, fault_of, Reports}
+use Rattle.c0_rules.specs.Rules.{violations}
 use Rattle.built_text.specs.Tree.{ProgramTree as SmallTree}
-use Rattle.built_text.specs.Tokens.{built_lexeme, built, all_built, EndsLast as SmallEndsLast}
+use Rattle.built_text.specs.Tokens.{built_lexeme, built, all_built, EndsLast as SmallEndsLast, CutEndsLast}
 use Rattle.built_text.specs.Grammar.{IsProgram}
 use Rattle.built_text.specs.Reads.{FirstFault}
-use Rattle.gradual_top.specs.Source.{grammar_token, grammar_tokens, small_tokens, HasParseFault, IsSound, IsSmall, IsUnbuilt, lexical, parsing, typing}
+use Rattle.gradual_top.specs.Source.{grammar_token, grammar_tokens, small_tokens, HasTree, HasParseFault, IsSmall, IsUnbuilt, lexical, parsing, typing}
 use Rattle.gradual_top.specs.declared.status.Status.TheVariants.{Refused}
 use Rattle.gradual_top.specs.Lines.{lexical_line, parse_line, parse_status, type_line}
 use Rattle.gradual_top.specs.Outcomes.{Outputs, Refuses, TextAnswered}
@@ -38,19 +38,15 @@ small_seen [] = refl
 small_seen (t ∷ ts) = ap (λ l. built_lexeme (lexeme_of t) ∷ l) (small_seen ts)
 
 -- ---- the end of the text stands last
-grammar_ends : (front : List Lexeme) (place : Place) → EndsLast (grammar_tokens (front ++ end_at place ∷ []))
+pub grammar_ends : (front : List Lexeme) (place : Place) → EndsLast (grammar_tokens (front ++ end_at place ∷ []))
 grammar_ends [] place = record { front = []; last = place; split = refl }
 grammar_ends (l ∷ front) place = let x = grammar_ends front place in record { front = grammar_token l ∷ x.front; last = x.last; split = ap (λ ts. grammar_token l ∷ ts) x.split }
-
-small_ends : (front : List Lexeme) (place : Place) → SmallEndsLast (small_tokens (front ++ end_at place ∷ []))
-small_ends [] place = record { front = []; last = place; split = refl }
-small_ends (l ∷ front) place = let x = small_ends front place in record { front = built_lexeme l ∷ x.front; last = x.last; split = ap (λ ts. built_lexeme l ∷ ts) x.split }
 
 pub ends : (text : List ℕ) (ts : List LexToken) → HasTokens text (map lexeme_of ts) → EndsLast (all_seen ts)
 ends text ts has = subst EndsLast (sym (grammar_seen ts)) (subst (λ x. EndsLast (grammar_tokens x)) has.listed (grammar_ends (tokens_of start has.pieces) (place_after text)))
 
-pub ends_small : (text : List ℕ) (ts : List LexToken) → HasTokens text (map lexeme_of ts) → SmallEndsLast (all_built ts)
-ends_small text ts has = subst SmallEndsLast (sym (small_seen ts)) (subst (λ x. SmallEndsLast (small_tokens x)) has.listed (small_ends (tokens_of start has.pieces) (place_after text)))
+pub ends_small : CutEndsLast → (text : List ℕ) (ts : List LexToken) → HasTokens text (map lexeme_of ts) → SmallEndsLast (all_built ts)
+ends_small law text ts has = subst SmallEndsLast (sym (small_seen ts)) (law text (map lexeme_of ts) has)
 
 -- ---- causes
 -- what is no want of memory is a fault
@@ -77,18 +73,18 @@ parse_answer text ts n o (parse.ContractOnPrototype p) x has c r = record { refu
 parse_answer text ts n o (parse.DeepRead p) x has c r = record { refusal = parsing (parse.DeepRead p); cause = parse_fault text ts (parse.DeepRead p) has c; says = r }
 parse_answer text ts n o parse.Memory x has c r = absurd (x refl)
 
-pub sound : (text : List ℕ) (ts : List LexToken) (p : ProgramTree) → HasTokens text (map lexeme_of ts) → Reads 100 (all_seen ts) p → tree_faults p ≡ [] → IsSound text
-sound text ts p has r e = record { tree = p; has = record { lexemes = map lexeme_of ts; tokens = has; reads = subst (λ l. Reads 100 l p) (grammar_seen ts) r }; faultless = e }
+pub has_tree : (text : List ℕ) (ts : List LexToken) (p : ProgramTree) → HasTokens text (map lexeme_of ts) → Reads 100 (all_seen ts) p → HasTree text p
+has_tree text ts p has r = record { lexemes = map lexeme_of ts; tokens = has; reads = subst (λ l. Reads 100 l p) (grammar_seen ts) r }
 
-pub small : (text : List ℕ) (ts : List LexToken) (p : SmallTree) → HasTokens text (map lexeme_of ts) → IsProgram (all_built ts) p → IsSmall text p
-small text ts p has g = record { lexemes = map lexeme_of ts; tokens = has; program = subst (λ l. IsProgram l p) (small_seen ts) g }
+pub small : (text : List ℕ) (ts : List LexToken) (p : SmallTree) → HasTokens text (map lexeme_of ts) → IsProgram (all_built ts) p → IsSmall text
+small text ts p has g = record { lexemes = map lexeme_of ts; tokens = has; tree = p; program = subst (λ l. IsProgram l p) (small_seen ts) g }
 
 pub unbuilt_at : (text : List ℕ) (ts : List LexToken) (at : Place) → HasTokens text (map lexeme_of ts) → FirstFault (all_built ts) at → IsUnbuilt text at
 unbuilt_at text ts at has f = record { lexemes = map lexeme_of ts; tokens = has; fault = subst (λ l. FirstFault l at) (small_seen ts) f }
 
-type_cause : (tree : SmallTree) (f : TypeFault) → f ≢ typed.Memory → Reports (violations tree) f → option_map fault_of (least_of (violations tree)) ≡ Some f
+type_cause : (tree : ProgramTree) (f : TypeFault) → f ≢ typed.Memory → Reports (violations tree) f → option_map fault_of (least_of (violations tree)) ≡ Some f
 type_cause tree f n (inl e) = absurd (n e)
 type_cause tree f n (inr e) = e
 
-pub type_answer : (text : List ℕ) (n : ℕ) (o : Outputs) (f : TypeFault) (tree : SmallTree) → IsSound text → IsSmall text tree → f ≢ typed.Memory → Reports (violations tree) f → Refuses o (type_line f) → TextAnswered text n o Refused
-type_answer text n o f tree s m x c r = record { refusal = typing f; cause = record { sound = s; tree = tree; small = m; least = type_cause tree f x c }; says = r }
+pub type_answer : (text : List ℕ) (n : ℕ) (o : Outputs) (f : TypeFault) (tree : ProgramTree) → HasTree text tree → tree_faults tree ≡ [] → f ≢ typed.Memory → Reports (violations tree) f → Refuses o (type_line f) → TextAnswered text n o Refused
+type_answer text n o f tree has none x c r = record { refusal = typing f; cause = record { tree = tree; has = has; faultless = none; least = type_cause tree f x c }; says = r }

@@ -1,12 +1,12 @@
 -- What follows from the answer where the file and its text are given.
 use Rattle.std.proofs.Common.{◌≡◌, List, ℕ, [], length, Option, Some, None, IfSome, inl, inr, refl, sym, subst, ◌∙◌, ap, arith, ◌≤◌, ◌<◌}
 use Rattle.std.specs.Prelude.{◌⊎◌}
-use Rattle.built_text.specs.Tree.{ProgramTree}
-use Rattle.c0_types.specs.Resolved.{resolved}
+use Rattle.parsed_tree.specs.Tree.{ProgramTree}
+use Rattle.c0_numbers.specs.Resolved.{resolved}
 use Rattle.gradual_top.specs.declared.status.Status.{Status}
 use Rattle.gradual_top.specs.declared.status.Status.TheVariants.{Returned, Stopped, Fault, StepsUsed, Refused, Limit, Absent, ReadFault, WriteFault, Memory, NotBuilt, Usage}
 use Rattle.gradual_top.specs.Requests.{Asked, asked_in}
-use Rattle.gradual_top.specs.Source.{IsSmall, Verdict, refused, too_deep, unbuilt, runs, IsVerdict}
+use Rattle.gradual_top.specs.Source.{HasTree, Verdict, refused, too_deep, unbuilt, runs, IsVerdict}
 use Rattle.gradual_top.specs.Outcomes.{Outputs, Call, Asks, Reaches, Ran, IsRun, TextAnswered, OutputFailed, Answered, Given, Faultless, IsEnding, IsMeant, Does, IsExact}
 use Rattle.gradual_top.proofs.Verdicts.{Laws, same_tree, one_verdict}
 
@@ -32,8 +32,8 @@ of_given call status text steps g r =
     subst (λ x. TextAnswered x steps call.outputs status) (same_text call text r.text steps r.steps g r.asks)
     (subst (λ n. TextAnswered r.text n call.outputs status) (same_steps call text r.text steps r.steps g r.asks) r.answer)
 
-of_tree : Laws → (text : List ℕ) (tree : ProgramTree) (n : ℕ) (o : Outputs) (status : Status) → IsSmall text tree → IsRun text n o status → Ran text (resolved tree) n o status
-of_tree laws text tree n o status has r = subst (λ t. Ran text (resolved t) n o status) (same_tree laws text r.tree tree r.runnable.small has) r.ran
+of_tree : Laws → (text : List ℕ) (tree : ProgramTree) (n : ℕ) (o : Outputs) (status : Status) → HasTree text tree → IsRun text n o status → Ran text (resolved tree) n o status
+of_tree laws text tree n o status has r = subst (λ t. Ran text (resolved t) n o status) (same_tree laws text r.tree tree r.runnable.has has) r.ran
 
 pub meant : Laws → (call : Call) (status : Status) → Answered call status → IsMeant call status
 meant laws call Returned a text steps tree g has is = of_tree laws text tree steps call.outputs Returned has (of_given call Returned text steps g a)

@@ -9,8 +9,8 @@ use Rattle.gc0_io.specs.Bytes.{TakesFront}
 use Rattle.gc0_base.specs.declared.site.Ending.{Ending}
 use Rattle.gc0_base.specs.declared.site.Ending.TheVariants as ending
 use Rattle.gc0_tree.specs.Tree.{Program}
-use Rattle.built_text.specs.Tree.{ProgramTree}
-use Rattle.c0_types.specs.Resolved.{resolved}
+use Rattle.parsed_tree.specs.Tree.{ProgramTree}
+use Rattle.c0_numbers.specs.Resolved.{resolved}
 use Rattle.c0_meaning.specs.Running.{Seen}
 use Rattle.gradual_top.specs.declared.status.Status.{Status}
 use Rattle.gradual_top.specs.declared.status.Status.TheVariants.{Returned, Stopped, Fault, StepsUsed, Refused, Limit, Absent, ReadFault, WriteFault, Memory, NotBuilt, Usage}

@@ -12,12 +12,11 @@ use Rattle.c0_parse.specs.declared.fault.ParseFault.{ParseFault}
 use Rattle.c0_parse.specs.declared.fault.ParseFault.TheVariants as parse
 use Rattle.c0_parse.specs.TreeFaults.{TreeFault, contract_on_prototype, deep_read, tree_faults}
 use Rattle.c0_parse.specs.Causes.{ComesFirst, TreeHas, HasCause}
-use Rattle.c0_types.specs.declared.violation.TypeFault.{TypeFault}
-use Rattle.c0_types.specs.Violations.{least_of, fault_of}
-use Rattle.c0_types.specs.Rules.{violations}
-use Rattle.built_text.specs.Tree.{ProgramTree as SmallTree}
-use Rattle.built_text.specs.Grammar.{IsProgram}
-use Rattle.built_text.specs.Reads.{FirstFault, OneTree as OneSmallTree, OneFault as OneUnbuilt}
+use Rattle.c0_rules.specs.declared.violation.TypeFault.{TypeFault}
+use Rattle.c0_rules.specs.declared.violation.Violation.{Violation}
+use Rattle.c0_rules.specs.Violations.{least_of, fault_of}
+use Rattle.c0_rules.specs.Rules.{violations}
+use Rattle.built_text.specs.Reads.{FirstFault, OneFault as OneUnbuilt}
 use Rattle.gradual_top.specs.Source.{grammar_tokens, small_tokens, HasTree, HasParseFault, IsSound, HasTypeFault, Refusal, lexical, parsing, typing, IsRefused, IsTooDeep, IsSmall, IsUnbuilt, IsRunnable, Verdict, refused, too_deep, unbuilt, runs, IsSoundUnbuilt, IsVerdict}
 use Rattle.gradual_top.proofs.First.{First, of_syntax, of_deep, no_tree, one_place, not_both}
 
@@ -27,14 +26,14 @@ pub record Laws : Type 0 where
   pub faults : OneFault
   pub never : NeverBoth
   pub trees : OneTree
-  pub small_trees : OneSmallTree
   pub unbuilt : OneUnbuilt
 
 -- ---- trees
-pub same_tree : Laws → (text : List ℕ) (p q : SmallTree) → IsSmall text p → IsSmall text q → p ≡ q
+pub same_tree : Laws → (text : List ℕ) (p q : ProgramTree) → HasTree text p → HasTree text q → p ≡ q
 same_tree laws text p q a b =
     let same = laws.lists text b.lexemes a.lexemes b.tokens a.tokens in
-    laws.small_trees (small_tokens a.lexemes) p q a.program (subst (λ l. IsProgram (small_tokens l) q) same b.program)
+    let r : Reads 100 (grammar_tokens a.lexemes) q = subst (λ l. Reads 100 (grammar_tokens l) q) same b.reads in
+    laws.trees (grammar_tokens a.lexemes) p q a.reads.nodes r.nodes a.reads.program r.program
 
 -- the tokens of the one are those of the other
 read_by : Laws → (text : List ℕ) (f : ParseFault) (p : ProgramTree) (h : HasParseFault text f) → HasTree text p → Reads 100 (grammar_tokens h.lexemes) p
@@ -56,21 +55,20 @@ tree_not_refused laws text f t p h c has none =
     not_first t (tree_faults c.0) (ap tree_faults e ∙ none) c.2
 
 -- a tree that breaks no typing rule has no first violation
-no_violation : (tree : SmallTree) (f : TypeFault) → violations tree ≡ [] → option_map fault_of (least_of (violations tree)) ≡ Some f → ⊥
+no_violation : (tree : ProgramTree) (f : TypeFault) → violations tree ≡ [] → option_map fault_of (least_of (violations tree)) ≡ Some f → ⊥
 no_violation tree f v h = let e : None ≡ Some f = ap (λ vs. option_map fault_of (least_of vs)) (sym v) ∙ h in absurd (cc)
 
-lex_not_sound : Laws → (text : List ℕ) (f : LexFault) → HasFault text f → IsSound text → ⊥
-lex_not_sound laws text f c s = laws.never text s.has.lexemes f s.has.tokens c
+pub not_refused : Laws → (text : List ℕ) (r : Refusal) (p : ProgramTree) → IsRefused text r → HasTree text p → IsSound p → ⊥
+not_refused laws text (lexical f) p c has sound = laws.never text has.lexemes f has.tokens c
+not_refused laws text (parsing (parse.Syntax at)) p c has sound = no_tree (grammar_tokens c.lexemes) at p (of_syntax _ at c.cause) (read_by laws text (parse.Syntax at) p c has)
+not_refused laws text (parsing (parse.TooDeep at)) p c has sound = absurd c
+not_refused laws text (parsing (parse.ContractOnPrototype at)) p c has sound = tree_not_refused laws text (parse.ContractOnPrototype at) (contract_on_prototype at) p c c.cause has sound.faultless
+not_refused laws text (parsing (parse.DeepRead at)) p c has sound = tree_not_refused laws text (parse.DeepRead at) (deep_read at) p c c.cause has sound.faultless
+not_refused laws text (parsing parse.Memory) p c has sound = absurd c
+not_refused laws text (typing f) p c has sound = no_violation p f sound.typed (ap (λ q. option_map fault_of (least_of (violations q))) (sym (same_tree laws text c.tree p c.has has)) ∙ c.least)
 
-parse_not_sound : Laws → (text : List ℕ) (f : ParseFault) → IsRefused text (parsing f) → IsSound text → ⊥
-parse_not_sound laws text (parse.Syntax at) c s = no_tree (grammar_tokens c.lexemes) at s.tree (of_syntax _ at c.cause) (read_by laws text (parse.Syntax at) s.tree c s.has)
-parse_not_sound laws text (parse.TooDeep at) c s = absurd c
-parse_not_sound laws text (parse.ContractOnPrototype at) c s = tree_not_refused laws text (parse.ContractOnPrototype at) (contract_on_prototype at) s.tree c c.cause s.has s.faultless
-parse_not_sound laws text (parse.DeepRead at) c s = tree_not_refused laws text (parse.DeepRead at) (deep_read at) s.tree c c.cause s.has s.faultless
-parse_not_sound laws text parse.Memory c s = absurd c
-
-deep_not_sound : Laws → (text : List ℕ) → IsTooDeep text → IsSound text → ⊥
-deep_not_sound laws text d s = no_tree (grammar_tokens d.fault.lexemes) d.at s.tree (of_deep _ d.at d.fault.cause) (read_by laws text (parse.TooDeep d.at) s.tree d.fault s.has)
+pub not_deep : Laws → (text : List ℕ) (p : ProgramTree) → IsTooDeep text → HasTree text p → ⊥
+not_deep laws text p d has = no_tree (grammar_tokens d.fault.lexemes) d.at p (of_deep _ d.at d.fault.cause) (read_by laws text (parse.TooDeep d.at) p d.fault has)
 
 -- ---- one refusal
 tree_first : Laws → (text : List ℕ) (at : Place) (f g : ParseFault) (t : TreeFault) (h : HasParseFault text f) (k : HasParseFault text g) → First (grammar_tokens h.lexemes) at → TreeHas (grammar_tokens k.lexemes) t → ⊥
@@ -86,6 +84,14 @@ one_tree_fault laws text f g t u h k c d =
     let y = d.2.1 in
     let z : t ∷ c.2.0 ≡ u ∷ d.2.0 = sym x ∙ (ap tree_faults e ∙ y) in
     cc
+
+-- a fault of the parser refuses, and no tree's violation does
+parse_not_typed : Laws → (text : List ℕ) (f : ParseFault) (g : TypeFault) → IsRefused text (parsing f) → HasTypeFault text g → ⊥
+parse_not_typed laws text (parse.Syntax at) g c t = no_tree (grammar_tokens c.lexemes) at t.tree (of_syntax _ at c.cause) (read_by laws text (parse.Syntax at) t.tree c t.has)
+parse_not_typed laws text (parse.TooDeep at) g c t = absurd c
+parse_not_typed laws text (parse.ContractOnPrototype at) g c t = tree_not_refused laws text (parse.ContractOnPrototype at) (contract_on_prototype at) t.tree c c.cause t.has t.faultless
+parse_not_typed laws text (parse.DeepRead at) g c t = tree_not_refused laws text (parse.DeepRead at) (deep_read at) t.tree c c.cause t.has t.faultless
+parse_not_typed laws text parse.Memory g c t = absurd c
 
 lex_not_parse : Laws → (text : List ℕ) (f : LexFault) (g : ParseFault) → HasFault text f → IsRefused text (parsing g) → ⊥
 lex_not_parse laws text f (parse.Syntax at) c d = laws.never text d.lexemes f d.tokens c
@@ -120,18 +126,18 @@ one_parse laws text f parse.Memory c d = absurd d
 
 one_typed : Laws → (text : List ℕ) (f g : TypeFault) → HasTypeFault text f → HasTypeFault text g → f ≡ g
 one_typed laws text f g c d =
-    let e : Some f ≡ Some g = sym c.least ∙ (ap (λ q. option_map fault_of (least_of (violations q))) (same_tree laws text c.tree d.tree c.small d.small) ∙ d.least) in
+    let e : Some f ≡ Some g = sym c.least ∙ (ap (λ q. option_map fault_of (least_of (violations q))) (same_tree laws text c.tree d.tree c.has d.has) ∙ d.least) in
     cc
 
 one_refusal : Laws → (text : List ℕ) (r s : Refusal) → IsRefused text r → IsRefused text s → r ≡ s
 one_refusal laws text (lexical f) (lexical g) c d = ap lexical (laws.faults text f g c d)
 one_refusal laws text (lexical f) (parsing g) c d = absurd (lex_not_parse laws text f g c d)
-one_refusal laws text (lexical f) (typing g) c d = absurd (lex_not_sound laws text f c d.sound)
+one_refusal laws text (lexical f) (typing g) c d = absurd (laws.never text d.has.lexemes f d.has.tokens c)
 one_refusal laws text (parsing f) (lexical g) c d = absurd (lex_not_parse laws text g f d c)
 one_refusal laws text (parsing f) (parsing g) c d = ap parsing (one_parse laws text f g c d)
-one_refusal laws text (parsing f) (typing g) c d = absurd (parse_not_sound laws text f c d.sound)
-one_refusal laws text (typing f) (lexical g) c d = absurd (lex_not_sound laws text g d c.sound)
-one_refusal laws text (typing f) (parsing g) c d = absurd (parse_not_sound laws text g d c.sound)
+one_refusal laws text (parsing f) (typing g) c d = absurd (parse_not_typed laws text f g c d)
+one_refusal laws text (typing f) (lexical g) c d = absurd (laws.never text c.has.lexemes g c.has.tokens d)
+one_refusal laws text (typing f) (parsing g) c d = absurd (parse_not_typed laws text g f d c)
 one_refusal laws text (typing f) (typing g) c d = ap typing (one_typed laws text f g c d)
 
 -- ---- what passes the limit of nesting is not refused
@@ -142,43 +148,33 @@ deep_not_refused laws text (parsing (parse.TooDeep at)) c d = absurd c
 deep_not_refused laws text (parsing (parse.ContractOnPrototype at)) c d = tree_first laws text d.at (parse.TooDeep d.at) (parse.ContractOnPrototype at) (contract_on_prototype at) d.fault c (of_deep _ d.at d.fault.cause) c.cause
 deep_not_refused laws text (parsing (parse.DeepRead at)) c d = tree_first laws text d.at (parse.TooDeep d.at) (parse.DeepRead at) (deep_read at) d.fault c (of_deep _ d.at d.fault.cause) c.cause
 deep_not_refused laws text (parsing parse.Memory) c d = absurd c
-deep_not_refused laws text (typing f) c d = deep_not_sound laws text d c.sound
+deep_not_refused laws text (typing f) c d = not_deep laws text c.tree d c.has
 
 -- ---- what is built and what isn't
-small_unbuilt : Laws → (text : List ℕ) (p : SmallTree) (at : Place) → IsSmall text p → IsUnbuilt text at → ⊥
-small_unbuilt laws text p at s u =
+small_unbuilt : Laws → (text : List ℕ) (at : Place) → IsSmall text → IsUnbuilt text at → ⊥
+small_unbuilt laws text at s u =
     let same = laws.lists text u.lexemes s.lexemes u.tokens s.tokens in
-    laws.unbuilt.1 (small_tokens s.lexemes) p at s.program (subst (λ l. FirstFault (small_tokens l) at) same u.fault)
+    laws.unbuilt.1 (small_tokens s.lexemes) s.tree at s.program (subst (λ l. FirstFault (small_tokens l) at) same u.fault)
 
 one_unbuilt : Laws → (text : List ℕ) (a b : Place) → IsUnbuilt text a → IsUnbuilt text b → a ≡ b
 one_unbuilt laws text a b u v =
     let same = laws.lists text v.lexemes u.lexemes v.tokens u.tokens in
     laws.unbuilt.0 (small_tokens u.lexemes) a b u.fault (subst (λ l. FirstFault (small_tokens l) b) same v.fault)
 
-refused_not_unbuilt : Laws → (text : List ℕ) (r : Refusal) (at : Place) → IsRefused text r → IsSoundUnbuilt text at → ⊥
-refused_not_unbuilt laws text (lexical f) at c d = lex_not_sound laws text f c d.sound
-refused_not_unbuilt laws text (parsing f) at c d = parse_not_sound laws text f c d.sound
-refused_not_unbuilt laws text (typing f) at c d = small_unbuilt laws text c.tree at c.small d.unbuilt
-
-refused_not_run : Laws → (text : List ℕ) (r : Refusal) (p : SmallTree) → IsRefused text r → IsRunnable text p → ⊥
-refused_not_run laws text (lexical f) p c d = lex_not_sound laws text f c d.sound
-refused_not_run laws text (parsing f) p c d = parse_not_sound laws text f c d.sound
-refused_not_run laws text (typing f) p c d = no_violation p f d.typed (ap (λ q. option_map fault_of (least_of (violations q))) (sym (same_tree laws text c.tree p c.small d.small)) ∙ c.least)
-
 pub one_verdict : Laws → (text : List ℕ) (v w : Verdict) → IsVerdict text v → IsVerdict text w → v ≡ w
 one_verdict laws text (refused r) (refused s) c d = ap refused (one_refusal laws text r s c d)
 one_verdict laws text (refused r) too_deep c d = absurd (deep_not_refused laws text r c d)
-one_verdict laws text (refused r) (unbuilt b) c d = absurd (refused_not_unbuilt laws text r b c d)
-one_verdict laws text (refused r) (runs q) c d = absurd (refused_not_run laws text r q c d)
+one_verdict laws text (refused r) (unbuilt b) c d = absurd (not_refused laws text r d.tree c d.has d.sound)
+one_verdict laws text (refused r) (runs q) c d = absurd (not_refused laws text r q c d.has d.sound)
 one_verdict laws text too_deep (refused s) c d = absurd (deep_not_refused laws text s d c)
 one_verdict laws text too_deep too_deep c d = refl
-one_verdict laws text too_deep (unbuilt b) c d = absurd (deep_not_sound laws text c d.sound)
-one_verdict laws text too_deep (runs q) c d = absurd (deep_not_sound laws text c d.sound)
-one_verdict laws text (unbuilt a) (refused s) c d = absurd (refused_not_unbuilt laws text s a d c)
-one_verdict laws text (unbuilt a) too_deep c d = absurd (deep_not_sound laws text d c.sound)
+one_verdict laws text too_deep (unbuilt b) c d = absurd (not_deep laws text d.tree c d.has)
+one_verdict laws text too_deep (runs q) c d = absurd (not_deep laws text q c d.has)
+one_verdict laws text (unbuilt a) (refused s) c d = absurd (not_refused laws text s c.tree d c.has c.sound)
+one_verdict laws text (unbuilt a) too_deep c d = absurd (not_deep laws text c.tree d c.has)
 one_verdict laws text (unbuilt a) (unbuilt b) c d = ap unbuilt (one_unbuilt laws text a b c.unbuilt d.unbuilt)
-one_verdict laws text (unbuilt a) (runs q) c d = absurd (small_unbuilt laws text q a d.small c.unbuilt)
-one_verdict laws text (runs p) (refused s) c d = absurd (refused_not_run laws text s p d c)
-one_verdict laws text (runs p) too_deep c d = absurd (deep_not_sound laws text d c.sound)
-one_verdict laws text (runs p) (unbuilt b) c d = absurd (small_unbuilt laws text p b c.small d.unbuilt)
-one_verdict laws text (runs p) (runs q) c d = ap runs (same_tree laws text p q c.small d.small)
+one_verdict laws text (unbuilt a) (runs q) c d = absurd (small_unbuilt laws text a d.small c.unbuilt)
+one_verdict laws text (runs p) (refused s) c d = absurd (not_refused laws text s p d c.has c.sound)
+one_verdict laws text (runs p) too_deep c d = absurd (not_deep laws text p d c.has)
+one_verdict laws text (runs p) (unbuilt b) c d = absurd (small_unbuilt laws text b c.small d.unbuilt)
+one_verdict laws text (runs p) (runs q) c d = ap runs (same_tree laws text p q c.has d.has)

@@ -16,8 +16,8 @@ use Rattle.c0_lex.specs.declared.fault.LexFault.{LexFault}
 use Rattle.c0_lex.specs.declared.fault.LexFault.TheVariants as lex
 use Rattle.c0_parse.specs.declared.fault.ParseFault.{ParseFault}
 use Rattle.c0_parse.specs.declared.fault.ParseFault.TheVariants as parse
-use Rattle.c0_types.specs.declared.violation.TypeFault.{TypeFault}
-use Rattle.c0_types.specs.declared.violation.TypeFault.TheVariants as fault
+use Rattle.c0_rules.specs.declared.violation.TypeFault.{TypeFault}
+use Rattle.c0_rules.specs.declared.violation.TypeFault.TheVariants as fault
 use Rattle.gradual_top.specs.declared.status.Status.{Status}
 use Rattle.gradual_top.specs.declared.status.Status.TheVariants.{Returned, Stopped, Fault, StepsUsed, Refused, Limit, Absent, ReadFault, WriteFault, Memory, NotBuilt, Usage}
 use Rattle.gradual_top.specs.Words.{word_at}
@@ -138,6 +138,8 @@ type_line (fault.Unknown p) = refused_at p (codes "unknown")
 type_line (fault.Twice p) = refused_at p (codes "twice")
 type_line (fault.WrongType p) = refused_at p (codes "wrong type")
 type_line (fault.WrongCount p) = refused_at p (codes "wrong count")
+type_line (fault.Unassigned p) = refused_at p (codes "unassigned")
+type_line (fault.NoReturn p) = refused_at p (codes "no return")
 type_line (fault.AssignedInEnsures p) = refused_at p (codes "assigned in ensures")
 type_line (fault.NoMain p) = refused_at p (codes "no main")
 type_line fault.Memory = []

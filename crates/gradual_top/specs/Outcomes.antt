@@ -5,14 +5,14 @@ use Rattle.gc0_io.specs.Causes.{Rose}
 use Rattle.gc0_io.specs.Bytes.{TakesFront}
 use Rattle.gc0_io.specs.Fetching.{Contents}
 use Rattle.gc0_base.specs.declared.place.Place.{Place}
-use Rattle.built_text.specs.Tree.{ProgramTree}
+use Rattle.parsed_tree.specs.Tree.{ProgramTree}
 use Rattle.gc0_tree.specs.Tree.{Program}
-use Rattle.c0_types.specs.Resolved.{resolved}
+use Rattle.c0_numbers.specs.Resolved.{resolved}
 use Rattle.c0_meaning.specs.Running.{Seen, meaning}
 use Rattle.gradual_top.specs.declared.status.Status.{Status}
 use Rattle.gradual_top.specs.declared.status.Status.TheVariants.{Returned, Stopped, Fault, StepsUsed, Refused, Limit, Absent, ReadFault, WriteFault, Memory, NotBuilt, Usage}
 use Rattle.gradual_top.specs.Requests.{Asked, asked_in}
-use Rattle.gradual_top.specs.Source.{IsSmall, Refusal, IsRefused, IsTooDeep, IsSoundUnbuilt, IsRunnable, Verdict, refused, too_deep, unbuilt, runs, IsVerdict}
+use Rattle.gradual_top.specs.Source.{HasTree, Refusal, IsRefused, IsTooDeep, IsSoundUnbuilt, IsRunnable, Verdict, refused, too_deep, unbuilt, runs, IsVerdict}
 use Rattle.gradual_top.specs.Lines.{usage_line, source_line, nesting_line, read_fault_line, absent_line, not_built_line, refusal_line, line_of, status_of}
 
 -- the outputs before and after a call: their counts of faults, and the bytes that were taken, where they are told
@@ -175,7 +175,7 @@ pub record Given (call : Call) (text : List ℕ) (steps : ℕ) : Type 0 where
 -- written, and nothing else, and the status is that of the ending.
 abbrev pub IsMeant : Call → Status → Type 0
 IsMeant call status =
-    (text : List ℕ) (steps : ℕ) (tree : ProgramTree) → Given call text steps → IsSmall text tree → IsEnding status → Ran text (resolved tree) steps call.outputs status
+    (text : List ℕ) (steps : ℕ) (tree : ProgramTree) → Given call text steps → HasTree text tree → IsEnding status → Ran text (resolved tree) steps call.outputs status
 
 -- no count of faults rose
 pub record Faultless (call : Call) : Type 0 where

@@ -12,9 +12,9 @@ use Rattle.c0_parse.specs.declared.fault.ParseFault.{ParseFault}
 use Rattle.c0_parse.specs.declared.fault.ParseFault.TheVariants as parse
 use Rattle.c0_parse.specs.TreeFaults.{tree_faults}
 use Rattle.c0_parse.specs.Causes.{HasCause}
-use Rattle.c0_types.specs.declared.violation.TypeFault.{TypeFault}
-use Rattle.c0_types.specs.Violations.{least_of, fault_of}
-use Rattle.c0_types.specs.Rules.{violations}
+use Rattle.c0_rules.specs.declared.violation.TypeFault.{TypeFault}
+use Rattle.c0_rules.specs.Violations.{least_of, fault_of}
+use Rattle.c0_rules.specs.Rules.{violations}
 use Rattle.built_text.specs.declared.token.Token.{Token as SmallToken}
 use Rattle.built_text.specs.Tree.{ProgramTree as SmallTree}
 use Rattle.built_text.specs.Grammar.{IsProgram}
@@ -48,23 +48,16 @@ pub record HasParseFault (text : List ℕ) (fault : ParseFault) : Type 0 where
   pub tokens : HasTokens text lexemes
   pub cause : HasCause (grammar_tokens lexemes) fault
 
--- the text has a tree, which is not too deep and has no fault of formulas and prototypes
-pub record IsSound (text : List ℕ) : Type 0 where
+-- a tree that no rule refuses: neither those of formulas and prototypes, nor those of types and scopes
+pub record IsSound (tree : ProgramTree) : Type 0 where
+  pub faultless : tree_faults tree ≡ []
+  pub typed : violations tree ≡ []
+
+-- the text has a tree, and this is its first violation of a typing rule
+pub record HasTypeFault (text : List ℕ) (fault : TypeFault) : Type 0 where
   pub tree : ProgramTree
   pub has : HasTree text tree
   pub faultless : tree_faults tree ≡ []
-
--- the text is one of the grammar that is built so far, and this is its tree there
-pub record IsSmall (text : List ℕ) (tree : SmallTree) : Type 0 where
-  pub lexemes : List Lexeme
-  pub tokens : HasTokens text lexemes
-  pub program : IsProgram (small_tokens lexemes) tree
-
--- the text is built, and this is its first violation of a typing rule
-pub record HasTypeFault (text : List ℕ) (fault : TypeFault) : Type 0 where
-  pub sound : IsSound text
-  pub tree : SmallTree
-  pub small : IsSmall text tree
   pub least : option_map fault_of (least_of (violations tree)) ≡ Some fault
 
 -- why a text is refused
@@ -88,28 +81,37 @@ pub record IsTooDeep (text : List ℕ) : Type 0 where
   pub at : Place
   pub fault : HasParseFault text (parse.TooDeep at)
 
+-- the text is one of the grammar that is built so far
+pub record IsSmall (text : List ℕ) : Type 0 where
+  pub lexemes : List Lexeme
+  pub tokens : HasTokens text lexemes
+  pub tree : SmallTree
+  pub program : IsProgram (small_tokens lexemes) tree
+
 -- it is none of that grammar, and the first token that shows it stands here
 pub record IsUnbuilt (text : List ℕ) (place : Place) : Type 0 where
   pub lexemes : List Lexeme
   pub tokens : HasTokens text lexemes
   pub fault : FirstFault (small_tokens lexemes) place
 
--- the text is built, this is its tree there, and no rule refuses it
-pub record IsRunnable (text : List ℕ) (tree : SmallTree) : Type 0 where
-  pub sound : IsSound text
-  pub small : IsSmall text tree
-  pub typed : violations tree ≡ []
+-- the text has this tree, no rule refuses it, and it is built
+pub record IsRunnable (text : List ℕ) (tree : ProgramTree) : Type 0 where
+  pub has : HasTree text tree
+  pub sound : IsSound tree
+  pub small : IsSmall text
 
 -- what a text is to this program
 pub data Verdict : Type 0 where
   refused : Refusal → Verdict
   too_deep : Verdict
   unbuilt : Place → Verdict
-  runs : SmallTree → Verdict
+  runs : ProgramTree → Verdict
 
--- the text has a tree without a fault, but is none of the grammar that is built so far
+-- the text has a tree that no rule refuses, but is none of the grammar that is built so far
 pub record IsSoundUnbuilt (text : List ℕ) (place : Place) : Type 0 where
-  pub sound : IsSound text
+  pub tree : ProgramTree
+  pub has : HasTree text tree
+  pub sound : IsSound tree
   pub unbuilt : IsUnbuilt text place
 
 abbrev pub IsVerdict : List ℕ → Verdict → Type 0

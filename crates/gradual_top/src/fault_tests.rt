@@ -134,14 +134,6 @@ fn faults_of_the_grammar_are_named(rt: HostRuntime) -> Result<(), Fail> {
 fn violations_are_named(rt: HostRuntime) -> Result<(), Fail> {
     let rows = [
         (
-            "int main() { int x = 1;\n int x = 2; return x; }",
-            "refused 2:6 twice\n",
-        ),
-        (
-            "int f(int x)\n//@ensures 0 < x;\n{ x = 1; return x; } int main() { return 1; }",
-            "refused 3:3 assigned in ensures\n",
-        ),
-        (
             "int main() { int x = x; return x; }",
             "refused 1:22 unknown\n",
         ),
@@ -151,13 +143,34 @@ fn violations_are_named(rt: HostRuntime) -> Result<(), Fail> {
             "refused 1:46 unknown\n",
         ),
         (
-            "int f(int a) /*@ requires a == x; @*/ { int x = 1; return x; } int main() { return 0; }",
-            "refused 1:32 unknown\n",
+            "int main() { for (int i = 0; i < 3; i++) { } return i; }",
+            "refused 1:53 unknown\n",
         ),
-        ("int main() { return y + z; }", "refused 1:21 unknown\n"),
+        ("int main() { return g(1); }", "refused 1:21 unknown\n"),
+        ("int main() { return g(1, y); }", "refused 1:26 unknown\n"),
         (
-            "int main() { int x = g(1); return x; }",
-            "refused 1:22 unknown\n",
+            "int g(int a); int main() { return g(1); }",
+            "refused 1:35 unknown\n",
+        ),
+        (
+            "struct s { int v; bool b; struct s* n; }; int main() { struct s* p = NULL; return p->w; }",
+            "refused 1:86 unknown\n",
+        ),
+        (
+            "struct t; int f(struct t* p) { return p->v; } int main() { return 0; }",
+            "refused 1:42 unknown\n",
+        ),
+        (
+            "int main() { struct t* p = alloc(struct t); return 0; }",
+            "refused 1:41 unknown\n",
+        ),
+        (
+            "typedef struct t t; int main() { t* p = alloc(t); return 0; }",
+            "refused 1:47 unknown\n",
+        ),
+        (
+            "int f(int a) /*@ requires \\result == a; @*/ { return a; } int main() { return 0; }",
+            "refused 1:27 unknown\n",
         ),
         (
             "int f() { return 0; } int f() { return 1; } int main() { return 0; }",
@@ -176,8 +189,28 @@ fn violations_are_named(rt: HostRuntime) -> Result<(), Fail> {
             "refused 1:19 twice\n",
         ),
         (
-            "int main() { int x = 1; bool x = 1; return 0; }",
-            "refused 1:30 twice\n",
+            "struct s { int v; }; struct s { int w; }; int main() { return 0; }",
+            "refused 1:29 twice\n",
+        ),
+        (
+            "struct s { int v; bool v; }; int main() { return 0; }",
+            "refused 1:24 twice\n",
+        ),
+        (
+            "/*@ predicate p() = true; predicate p() = true; @*/ int main() { return 0; }",
+            "refused 1:37 twice\n",
+        ),
+        (
+            "int readint() { return 1; } int main() { return 0; }",
+            "refused 1:5 twice\n",
+        ),
+        (
+            "void printint(int x); int main() { return 0; }",
+            "refused 1:6 twice\n",
+        ),
+        (
+            "int main() { int i = 0; for (int i = 1; i < 2; i++) { } return 0; }",
+            "refused 1:34 twice\n",
         ),
         (
             "int main() { return 1 + true * 2; }",
@@ -197,6 +230,14 @@ fn violations_are_named(rt: HostRuntime) -> Result<(), Fail> {
             "refused 1:27 wrong type\n",
         ),
         (
+            "int main() { int x = 1; x += true; return x; }",
+            "refused 1:27 wrong type\n",
+        ),
+        (
+            "int main() { bool x = true; x++; return 0; }",
+            "refused 1:30 wrong type\n",
+        ),
+        (
             "int main() { bool b = true; return ((b)); }",
             "refused 1:36 wrong type\n",
         ),
@@ -205,37 +246,158 @@ fn violations_are_named(rt: HostRuntime) -> Result<(), Fail> {
             "refused 1:21 wrong type\n",
         ),
         (
-            "int main() { /*@ assert 1; @*/ return 0; }",
+            "int main() { assert(1); return 0; }",
+            "refused 1:21 wrong type\n",
+        ),
+        (
+            "int main() { return true ? 1 : false; }",
+            "refused 1:26 wrong type\n",
+        ),
+        (
+            "int main() { return 1 ? 1 : 2; }",
+            "refused 1:23 wrong type\n",
+        ),
+        (
+            "int f(int a) { return a; } int main() { return f(true); }",
+            "refused 1:50 wrong type\n",
+        ),
+        (
+            "int f() { return; } int main() { return 0; }",
+            "refused 1:11 wrong type\n",
+        ),
+        (
+            "void f() { return 1; } int main() { return 0; }",
+            "refused 1:12 wrong type\n",
+        ),
+        (
+            "int main() { int* p = NULL; return 0; }",
+            "refused 1:14 wrong type\n",
+        ),
+        (
+            "struct s { struct t u; }; int main() { return 0; }",
+            "refused 1:12 wrong type\n",
+        ),
+        (
+            "int* f(int a) { return NULL; } int main() { return 0; }",
+            "refused 1:1 wrong type\n",
+        ),
+        (
+            "int f(struct s p) { return 0; } int main() { return 0; }",
+            "refused 1:7 wrong type\n",
+        ),
+        (
+            "int main() { alloc(int); return 0; }",
+            "refused 1:20 wrong type\n",
+        ),
+        (
+            "struct s { int v; bool b; struct s* n; }; int main() { struct s** p; return 0; }",
+            "refused 1:56 wrong type\n",
+        ),
+        (
+            "int main() { return NULL->v; }",
             "refused 1:25 wrong type\n",
         ),
         (
-            "int main() { /*@ assert true && 1 + 1; @*/ return 0; }",
+            "int main() { return (true ? NULL : NULL)->v; }",
+            "refused 1:41 wrong type\n",
+        ),
+        (
+            "int main() { int x = 1; return x->v; }",
             "refused 1:33 wrong type\n",
         ),
         (
-            "int f(int a) { return a; } int main() { int x = f(true); return x; }",
-            "refused 1:51 wrong type\n",
+            "int f(int a) { return a; } int main() { return f(); }",
+            "refused 1:48 wrong count\n",
         ),
         (
-            "int f(int a) { return a; } int main() { int x = f(); return x; }",
-            "refused 1:49 wrong count\n",
+            "int f(int a) { return a; } int main() { return f(1, 2); }",
+            "refused 1:48 wrong count\n",
         ),
         (
-            "int f(int a) { return a; } int main() { int x = f(1, 2); return x; }",
-            "refused 1:49 wrong count\n",
+            "int main() { print(); return 0; }",
+            "refused 1:14 wrong count\n",
+        ),
+        (
+            "/*@ predicate p(int a) = true; @*/ int main() { /*@ assert p(); @*/ return 0; }",
+            "refused 1:60 wrong count\n",
+        ),
+        (
+            "/*@ predicate p(int a) = true; @*/ int main() { /*@ unfold p(1, 2); @*/ return 0; }",
+            "refused 1:60 wrong count\n",
+        ),
+        (
+            "int main() { int x; return x; }",
+            "refused 1:28 unassigned\n",
+        ),
+        (
+            "int main() { int x; if (true) { x = 1; } return x; }",
+            "refused 1:49 unassigned\n",
+        ),
+        (
+            "int main() { int x; while (true) { x = 1; } return x; }",
+            "refused 1:52 unassigned\n",
+        ),
+        (
+            "int main() { int x; for (int i = 0; i < 3; i++) { x = i; } return x; }",
+            "refused 1:67 unassigned\n",
+        ),
+        (
+            "int main() { int x; x += 1; return x; }",
+            "refused 1:21 unassigned\n",
+        ),
+        (
+            "int main() { int x; x++; return x; }",
+            "refused 1:21 unassigned\n",
+        ),
+        (
+            "int main() { int x; /*@ assert x == 1; @*/ return 0; }",
+            "refused 1:32 unassigned\n",
+        ),
+        (
+            "int main() { int x; while (true) /*@ loop_invariant x == 1; @*/ { x = 1; } return 0; }",
+            "refused 1:53 unassigned\n",
+        ),
+        (
+            "int main() { int x; int y = true + x; return 0; }",
+            "refused 1:36 unassigned\n",
+        ),
+        (
+            "struct s { int v; bool b; struct s* n; }; int main() { struct s* p; p->v = 1; return 0; }",
+            "refused 1:69 unassigned\n",
+        ),
+        (
+            "int f() { } int main() { return 0; }",
+            "refused 1:11 no return\n",
+        ),
+        (
+            "int f() { if (true) { return 1; } } int main() { return 0; }",
+            "refused 1:35 no return\n",
+        ),
+        (
+            "int f() { while (true) { return 1; } } int main() { return 0; }",
+            "refused 1:38 no return\n",
+        ),
+        (
+            "int f(bool b) { if (b) { return 1; } else { assert(b); } } int main() { return 0; }",
+            "refused 1:58 no return\n",
         ),
         (
             "int f(int a) /*@ ensures \\result == a; @*/ { a = 1; return a; } int main() { return 0; }",
             "refused 1:46 assigned in ensures\n",
         ),
         (
-            "int f(int a) /*@ ensures a == 1; @*/ { a = 2; return 1; } int main() { return 0; }",
+            "int f(int a) /*@ ensures a == 1; @*/ { a += 1; return 1; } int main() { return 0; }",
             "refused 1:40 assigned in ensures\n",
+        ),
+        (
+            "int f(int a) /*@ requires true; @*/ /*@ ensures true || a == 1; @*/ { if (true) { a++; } return 1; } int main() { return 0; }",
+            "refused 1:83 assigned in ensures\n",
         ),
         ("", "refused 1:1 no main\n"),
         ("int f() { return 0; }", "refused 1:1 no main\n"),
+        ("void main() { }", "refused 1:1 no main\n"),
         ("int main(int a) { return a; }", "refused 1:1 no main\n"),
-        ("bool main() { return true; }", "refused 1:1 no main\n"),
+        ("int main();", "refused 1:1 no main\n"),
     ];
     for (text, line) in rows {
         refused(&rt, text, line)?;

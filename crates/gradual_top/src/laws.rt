@@ -1,7 +1,8 @@
-ghost use Rattle.gradual_top.specs.Source.{OneVerdict};
+ghost use Rattle.gradual_top.specs.Source.{OneVerdict, EachVerdict};
 
-use c0_grammar::one_tree;
-use c0_lex::{never_both, one_fault, one_list};
+use built_text::{cut_ends_last, each_tokens};
+use c0_grammar::{one_tree, run_is_exact};
+use c0_lex::{each_text, never_both, one_fault, one_list};
 
 /// A text has at most one verdict: refused for one fault, too deep, not built at one place, or
 /// run.
@@ -12,6 +13,15 @@ pub fn one_verdict()
     one_fault();
     never_both();
     one_tree();
-    built_text::one_tree();
     built_text::one_fault();
+}
+
+/// Each text has a verdict.
+pub fn each_verdict()
+    ensures { EachVerdict }
+{
+    each_text();
+    run_is_exact();
+    each_tokens();
+    cut_ends_last();
 }

@@ -9,7 +9,7 @@ mod status;
 mod top;
 mod word;
 
-pub use laws::one_verdict;
+pub use laws::{each_verdict, one_verdict};
 pub use request::{Request, request_of};
 pub use status::Status;
 pub use top::gradual;

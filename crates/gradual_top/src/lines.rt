@@ -98,6 +98,8 @@ pub fn type_text(alloc: Global, fault: TypeFault) -> Result<Vec<u8>, AllocError>
         TypeFault::Twice(place) => refused_at(alloc, place, b"twice"),
         TypeFault::WrongType(place) => refused_at(alloc, place, b"wrong type"),
         TypeFault::WrongCount(place) => refused_at(alloc, place, b"wrong count"),
+        TypeFault::Unassigned(place) => refused_at(alloc, place, b"unassigned"),
+        TypeFault::NoReturn(place) => refused_at(alloc, place, b"no return"),
         TypeFault::AssignedInEnsures(place) => refused_at(alloc, place, b"assigned in ensures"),
         TypeFault::NoMain(place) => refused_at(alloc, place, b"no main"),
         TypeFault::Memory => Err(AllocError),

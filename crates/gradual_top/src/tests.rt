@@ -1,4 +1,4 @@
-use crate::gradual;
+use crate::{each_verdict, gradual, one_verdict};
 use gc0_io::{MemFiles, MemSink, MemSource};
 use std::process::Abort;
 use std::test::Fail;
@@ -45,6 +45,8 @@ pub fn row(
 
 #[test]
 fn programs_are_run_or_refused(rt: HostRuntime) -> Result<(), Fail> {
+    one_verdict();
+    each_verdict();
     let half =
         "int half(int x)\n//@requires 0 <= x;\n//@ensures \\result <= x;\n{\n  int h = 0;\n  while (h + h < x)\n  //@loop_invariant h <= x;\n  { h = h + 1; }\n  return h;\n}\nint main() {\n  int a = half(7);\n  int b = half(-1);\n  return a;\n}\n";
     let rows = [

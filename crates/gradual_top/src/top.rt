@@ -13,7 +13,7 @@ ghost use Rattle.gradual_top.specs.Outcomes.{Answered, TextAnswered, IsMeant, Is
 use crate::lines::{absent_text, ending_text, lexical_text, not_built_text, parse_text, type_text};
 use crate::request::request_of;
 use crate::status::Status;
-use built_text::{ReadFault, read};
+use built_text::{ReadFault, built_forms, cut_ends_last, read};
 use c0_grammar::one_tree;
 use c0_lex::{never_both, one_fault, one_list, tokens};
 use c0_parse::{ParseFault, parse};
@@ -73,8 +73,8 @@ pub fn gradual<F: Files, S: Source, O: Sink, E: Sink>(
     one_fault();
     never_both();
     one_tree();
-    built_text::one_tree();
     built_text::one_fault();
+
     serve(alloc, words, files, out, err)
 }
 
@@ -125,25 +125,27 @@ fn serve_text<O: Sink, E: Sink>(
     ensures out_later { O.faults out.old ≤ O.faults out.new }
     ensures err_later { E.faults err.old ≤ E.faults err.new }
 {
+    cut_ends_last();
+    built_forms();
     let tokens = match tokens(alloc, text) {
         Ok(tokens) => tokens,
         Err(fault) => return say_text(err, lexical_text(alloc, fault), Status::Refused),
     };
-    match parse(alloc, &tokens) {
-        Ok(_) => {}
-        Err(fault) => return say_text(err, parse_text(alloc, fault), parse_status(fault)),
-    }
-    let parsed = match read(alloc, &tokens) {
+    let parsed = match parse(alloc, &tokens) {
         Ok(parsed) => parsed,
-        Err(ReadFault::NotBuilt(place)) => {
-            return say_text(err, not_built_text(alloc, place), Status::NotBuilt);
-        }
-        Err(ReadFault::Memory) => return say(err, b"memory\n", Status::Memory),
+        Err(fault) => return say_text(err, parse_text(alloc, fault), parse_status(fault)),
     };
     let program = match resolve(alloc, &parsed) {
         Ok(program) => program,
         Err(fault) => return say_text(err, type_text(alloc, fault), Status::Refused),
     };
+    match read(alloc, &tokens) {
+        Ok(_) => {}
+        Err(ReadFault::NotBuilt(place)) => {
+            return say_text(err, not_built_text(alloc, place), Status::NotBuilt);
+        }
+        Err(ReadFault::Memory) => return say(err, b"memory\n", Status::Memory),
+    }
     run_program(alloc, text, &program, steps, out, err)
 }
 

@@ -3,12 +3,11 @@ use Rattle.std.specs.Prelude.{◌≢◌}
 use Rattle.stack_code.specs.Built.{IsBuilt}
 use Rattle.c0_lex.specs.declared.fault.LexFault.TheVariants as lex
 use Rattle.c0_parse.specs.declared.fault.ParseFault.TheVariants as parse
-use Rattle.c0_types.specs.declared.violation.TypeFault.TheVariants as typed
-use Rattle.parsed_tree.specs.Views.{program_view as whole_view}
-use Rattle.built_text.specs.Views.{program_view as small_view}
+use Rattle.c0_rules.specs.declared.violation.TypeFault.TheVariants as typed
+use Rattle.parsed_tree.specs.Views.{program_view}
 use Rattle.gradual_top.specs.Outcomes.{TextAnswered}
-use Rattle.gradual_top.proofs.Said.{said, text_said, known_said, of_run}
-use Rattle.gradual_top.proofs.Causes.{ends, ends_small, lexical_answer, parse_answer, type_answer, sound, small, unbuilt_at}
+use Rattle.gradual_top.proofs.Said.{text_said, known_said, of_run}
+use Rattle.gradual_top.proofs.Causes.{ends, ends_small, lexical_answer, parse_answer, type_answer, has_tree, small, unbuilt_at}
 use Rattle.gradual_top.proofs.Built.{program_built}
 use Rattle.gradual_top.proofs.top.serve_text.Goals as goal
 
@@ -31,6 +30,19 @@ returns-in-Err-parse-clause-answer g c =
     (λ x e. parse_answer c.args.text.now c.in-Ok.tokens.items c.args.steps _ c.in-Err-parse.fault x has (cause (ends c.args.text.now c.in-Ok.tokens.items has)) (record { out = refl; err = e }))
     (λ r. (inl refl, inr r)) (inl refl)
 
+pub returns-in-Err-resolve-clause-answer : goal.returns-in-Err-resolve-clause-answer
+returns-in-Err-resolve-clause-answer g c =
+    let s = c.say_text-in-Err-resolve.ensures in
+    let t = c.type_text.ensures in
+    let has = c.in-Ok.ensures.tokens in
+    let tree = rw c.deref.ensures.value at c.in-Ok-parse.ensures.tree in
+    known_said (c.in-Err-resolve.fault ≢ typed.Memory) (λ v. v.items) (TextAnswered c.args.text.now c.args.steps _) _ _ _ _ _ _ _ _ t.line t.fault s.said s.memory
+    (λ x e. type_answer c.args.text.now c.args.steps _ c.in-Err-resolve.fault (program_view c.in-Ok-parse.parsed)
+    (has_tree c.args.text.now c.in-Ok.tokens.items _ has (tree (ends c.args.text.now c.in-Ok.tokens.items has)))
+    c.in-Ok-parse.ensures.faultless
+    x c.in-Err-resolve.ensures.fault (record { out = refl; err = e }))
+    (λ r. (inl refl, inr r)) (inl refl)
+
 pub returns-in-Err-NotBuilt-clause-answer : goal.returns-in-Err-NotBuilt-clause-answer
 returns-in-Err-NotBuilt-clause-answer g c =
     let s = c.say_text-in-Err-NotBuilt.ensures in
@@ -41,41 +53,32 @@ returns-in-Err-NotBuilt-clause-answer g c =
     (λ e. record {
       place = c.in-Err-NotBuilt.place;
       unbuilt = record {
-        sound = sound c.args.text.now c.in-Ok.tokens.items _ has (tree (ends c.args.text.now c.in-Ok.tokens.items has)) c.in-Ok-parse.ensures.faultless;
-        unbuilt = unbuilt_at c.args.text.now c.in-Ok.tokens.items c.in-Err-NotBuilt.place has (fault (ends_small c.args.text.now c.in-Ok.tokens.items has));
+        tree = program_view c.in-Ok-parse.parsed;
+        has = has_tree c.args.text.now c.in-Ok.tokens.items _ has (tree (ends c.args.text.now c.in-Ok.tokens.items has));
+        sound = record { faultless = c.in-Ok-parse.ensures.faultless; typed = c.in-Ok-resolve.ensures.kept };
+        unbuilt = unbuilt_at c.args.text.now c.in-Ok.tokens.items c.in-Err-NotBuilt.place has (fault (ends_small c.cut_ends_last.ensures c.args.text.now c.in-Ok.tokens.items has));
       };
       says = record { out = refl; err = e };
     })
     (λ r. (inl refl, inr r)) (inl refl)
 
-pub returns-in-Err-resolve-clause-answer : goal.returns-in-Err-resolve-clause-answer
-returns-in-Err-resolve-clause-answer g c =
-    let s = c.say_text-in-Err-resolve.ensures in
-    let t = c.type_text.ensures in
-    let has = c.in-Ok.ensures.tokens in
-    let tree = rw c.deref.ensures.value at c.in-Ok-parse.ensures.tree in
-    let program = rw c.deref-2.ensures.value at c.in-Ok-read.ensures.tree in
-    known_said (c.in-Err-resolve.fault ≢ typed.Memory) (λ v. v.items) (TextAnswered c.args.text.now c.args.steps _) _ _ _ _ _ _ _ _ t.line t.fault s.said s.memory
-    (λ x e. type_answer c.args.text.now c.args.steps _ c.in-Err-resolve.fault (small_view c.in-Ok-read.parsed)
-    (sound c.args.text.now c.in-Ok.tokens.items _ has (tree (ends c.args.text.now c.in-Ok.tokens.items has)) c.in-Ok-parse.ensures.faultless)
-    (small c.args.text.now c.in-Ok.tokens.items (small_view c.in-Ok-read.parsed) has program)
-    x c.in-Err-resolve.ensures.fault (record { out = refl; err = e }))
-    (λ r. (inl refl, inr r)) (inl refl)
-
 pub run_program-requires-clause-built : goal.run_program-requires-clause-built
 run_program-requires-clause-built g c =
+    let has = c.in-Ok.ensures.tokens in
+    let tree = rw c.deref.ensures.value at c.in-Ok-parse.ensures.tree in
+    let reads = tree (ends c.args.text.now c.in-Ok.tokens.items has) in
     let program = rw c.deref-2.ensures.value at c.in-Ok-read.ensures.tree in
-    subst IsBuilt (sym c.in-Ok-resolve.ensures.program) (program_built _ _ program c.in-Ok-resolve.ensures.kept)
+    subst IsBuilt (sym c.in-Ok-resolve.ensures.program) (program_built (program_view c.in-Ok-parse.parsed) (c.built_forms.ensures c.in-Ok.tokens.items _ (program_view c.in-Ok-parse.parsed) _ program reads.program) c.in-Ok-resolve.ensures.kept)
 
 pub returns-clause-answer : goal.returns-clause-answer
 returns-clause-answer g c =
     let has = c.in-Ok.ensures.tokens in
     let tree = rw c.deref.ensures.value at c.in-Ok-parse.ensures.tree in
     let program = rw c.deref-2.ensures.value at c.in-Ok-read.ensures.tree in
-    of_run c.args.text.now (small_view c.in-Ok-read.parsed) c.args.steps _ _
+    of_run c.args.text.now (program_view c.in-Ok-parse.parsed) c.args.steps _ _
     (record {
-      sound = sound c.args.text.now c.in-Ok.tokens.items _ has (tree (ends c.args.text.now c.in-Ok.tokens.items has)) c.in-Ok-parse.ensures.faultless;
-      small = small c.args.text.now c.in-Ok.tokens.items (small_view c.in-Ok-read.parsed) has program;
-      typed = c.in-Ok-resolve.ensures.kept;
+      has = has_tree c.args.text.now c.in-Ok.tokens.items _ has (tree (ends c.args.text.now c.in-Ok.tokens.items has));
+      sound = record { faultless = c.in-Ok-parse.ensures.faultless; typed = c.in-Ok-resolve.ensures.kept };
+      small = small c.args.text.now c.in-Ok.tokens.items _ has program;
     })
     (rw c.in-Ok-resolve.ensures.program at c.run_program.ensures.ends)
