@@ -1,0 +1,5 @@
+use Rattle.c0_print.proofs.Anywhere.{anywhere}
+use Rattle.c0_print.proofs.laws.reads_anywhere.Goals as goal
+
+pub returns : goal.returns
+returns c = anywhere

@@ -1,0 +1,5 @@
+use Rattle.c0_print.proofs.Again.{again}
+use Rattle.c0_print.proofs.laws.writes_again.Goals as goal
+
+pub returns : goal.returns
+returns c = again

@@ -1,0 +1,5 @@
+use Rattle.c0_print.proofs.AllowedTexts.{program_good}
+use Rattle.c0_print.proofs.laws.writes_good.Goals as goal
+
+pub returns : goal.returns
+returns c = program_good
