@@ -6,8 +6,8 @@ program. One token at the end decides how far the reading goes, so differences s
 
   tokens   a byte that begins no token at the end: the lexer alone
   tree     a token that begins no item at the end: lexer and parser
-  whole    no fault: also the first fault of the tree, and the reader of what can be run; the
-           answer is `not built`, at the first `struct`
+  whole    no fault: also the first fault of the tree, the typing rules, the numbers and the reader
+           of what can be run; the answer is `not built`, at the first `struct`
 
 Usage: run.py [--repeats N] [--binary FILE]   (build the program first, by running ./gradual once)
 Each time is the least processor time of N runs of the process, less that of the empty text.
