@@ -16,7 +16,7 @@ use Rattle.sat_check.specs.Logs.{IsTautology, IsNew, AllNew, EntriesAreBelow, kn
 use Rattle.sat_check.proofs.Lists.{Contains-at, at_within}
 use Rattle.sat_search.proofs.Lists.{slice_get-map, slice_get-take}
 use Rattle.sat_search.proofs.Settling.{cases_Contains}
-use Rattle.sat_search.proofs.Jumps.{some_lit}
+use Rattle.sat_search.proofs.Entries.{some_lit}
 
 abbrev literal : ℕ → Bool → Lit
 literal v s = record { variable = v; positive = s }

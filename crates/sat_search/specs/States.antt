@@ -9,8 +9,10 @@ use Rattle.sat_check.specs.Logs.{known_before, AllFollow, AllNew, EntriesAreBelo
 use Rattle.sat_search.specs.declared.trail.Slot.{Slot}
 use Rattle.sat_search.specs.declared.trail.Step.{Step}
 use Rattle.sat_search.specs.Trails.{falses_of, Keeps, AllStuck}
-use Rattle.sat_search.specs.Occurrences.{IsComplete}
-use Rattle.sat_search.specs.Propagation.{IsConflict, AllSettled}
+use Rattle.sat_search.specs.declared.placed.PlacedTrail.{PlacedTrail}
+use Rattle.sat_search.specs.declared.watches.Watches.{Watches}
+use Rattle.sat_search.specs.Watches.{IsTrail, AreWatched, AllGuarded}
+use Rattle.sat_search.specs.Propagation.{IsConflict}
 use Rattle.sat_search.specs.Searches.{IsRefutedByPropagation}
 
 -- Each level begins at a decision, and before it every clause was stuck.
@@ -27,25 +29,28 @@ pub record EntriesAre (variables : ℕ) (clauses : List Clause) (entries : List 
   pub new : AllNew clauses entries
   pub not_propagated : 0 < length entries → ¬ IsRefutedByPropagation clauses
 
-pub record IsState (variables : ℕ) (clauses : List Clause) (slots : List Slot) (steps : List Step) (levels : List ℕ) (positive negative : List (Vec ℕ Global)) (entries : List Entry) : Type 0 where
-  pub all : length slots ≡ variables
-  pub keeps : Keeps (known_before clauses entries) slots steps
-  pub levels_are : LevelsAre (known_before clauses entries) steps levels
-  pub complete : IsComplete (known_before clauses entries) positive negative
-  pub positive_len : length positive ≡ length slots
-  pub negative_len : length negative ≡ length slots
-  pub entries_are : EntriesAre variables clauses entries
-
--- propagation found this clause to be false, or no clause, and then all are stuck
-pub record Answers (known : List Clause) (steps : List Step) (conflict : Option ℕ) : Type 0 where
-  pub found : (index : ℕ) → conflict ≡ Some index → IsConflict known (falses_of steps) index
-  pub stuck : conflict ≡ None → AllStuck known (falses_of steps)
-
--- the last step alone is still to be propagated
-pub record IsAhead (known : List Clause) (steps : List Step) : Type 0 where
-  pub some : 0 < length steps
-  pub settled : AllSettled known steps (length steps - 1)
-
 -- where the last level begins, or 0 where there is none
 abbrev pub IsStart : List ℕ → ℕ → Type 0
 IsStart levels start = ((levels ≡ []) × (start ≡ 0)) ⊎ (slice_get levels (length levels - 1) ≡ Some start)
+
+-- each clause was guarded where a level begins
+abbrev pub AllLevelsGuarded : List Clause → List Step → List ℕ → Watches → Type 0
+AllLevelsGuarded known steps levels watches =
+    (level place : ℕ) → slice_get levels level ≡ Some place → AllGuarded known watches.pairs.items (falses_of (take place steps)) (falses_of (take place steps))
+
+pub record IsState (clauses : List Clause) (placed : PlacedTrail) (levels : List ℕ) (watches : Watches) (entries : List Entry) : Type 0 where
+  pub trail : IsTrail (known_before clauses entries) placed
+  pub levels_are : LevelsAre (known_before clauses entries) placed.trail.steps.items levels
+  pub watched : AreWatched (length placed.trail.slots.items) (known_before clauses entries) watches
+  pub guarded : AllLevelsGuarded (known_before clauses entries) placed.trail.steps.items levels watches
+  pub entries_are : EntriesAre (length placed.trail.slots.items) clauses entries
+
+-- propagation found this clause to be false, or no clause, and then all are guarded
+pub record Answers (known : List Clause) (steps : List Step) (watches : Watches) (conflict : Option ℕ) : Type 0 where
+  pub found : (index : ℕ) → conflict ≡ Some index → IsConflict known (falses_of steps) index
+  pub guarded : conflict ≡ None → AllGuarded known watches.pairs.items (falses_of steps) (falses_of steps)
+
+-- the last step alone is still to be propagated
+pub record IsAhead (known : List Clause) (steps : List Step) (watches : Watches) : Type 0 where
+  pub some : 0 < length steps
+  pub guarded : AllGuarded known watches.pairs.items (falses_of steps) (falses_of (take (length steps - 1) steps))

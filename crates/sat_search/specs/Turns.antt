@@ -1,47 +1,82 @@
 -- The turns of a search, and how it ends.
-use Rattle.std.specs.Prelude.{◌≡◌, ℕ, ◌+◌, ◌-◌, ◌*◌, ◌<◌, ◌≤◌, true, List, length, Option}
-use Rattle.std.specs.List.{All}
+use Rattle.std.specs.Prelude.{◌≡◌, ℕ, ◌+◌, ◌-◌, ◌*◌, ◌<◌, ◌≤◌, ◌++◌, ◌∷◌, [], true, List, length, take, slice_get, Option, Some}
+use Rattle.std.specs.List.{All, Contains}
+use Rattle.sat_check.specs.declared.clause.Lit.{Lit}
 use Rattle.sat_check.specs.declared.clause.Clause.{Clause}
-use Rattle.sat_check.specs.Logs.{known_before, IsRefutation, EntriesAreBelow}
+use Rattle.sat_check.specs.Logs.{known_before, IsUnit, IsRefutation, EntriesAreBelow}
+use Rattle.sat_search.specs.declared.watches.Pair.{Pair}
 use Rattle.sat_search.specs.declared.solver.Solver.{Solver}
+use Rattle.sat_search.specs.declared.solver.Learning.{Learning}
+use Rattle.sat_search.specs.declared.solver.Learning.TheVariants.{Refuted, Asserted, Restarted}
 use Rattle.sat_search.specs.declared.running.Ending.{Ending}
-use Rattle.sat_search.specs.declared.running.Ending.TheVariants.{Satisfied, Refuted, Spent}
+use Rattle.sat_search.specs.declared.running.Ending.TheVariants as ending
 use Rattle.sat_search.specs.declared.running.Turn.{Turn}
 use Rattle.sat_search.specs.declared.running.Turn.TheVariants.{Ends, Goes}
-use Rattle.sat_search.specs.Trails.{falses_of, Keeps, AllStuck}
-use Rattle.sat_search.specs.States.{IsState, EntriesAre, Answers}
+use Rattle.sat_search.specs.Trails.{falses_of, AllStuck, Keeps}
+use Rattle.sat_search.specs.Watches.{AllGuarded, IsFree}
+use Rattle.sat_search.specs.States.{IsState, EntriesAre, Answers, IsAhead}
+use Rattle.sat_search.specs.Marks.{IsReady}
 
-abbrev pub Holds : List Clause → Solver → Type 0
-Holds clauses s =
-    IsState (length s.trail.slots.items) clauses s.trail.slots.items s.trail.steps.items s.levels.items s.occurrences.positive.items s.occurrences.negative.items s.entries
+pub record Holds (clauses : List Clause) (s : Solver) : Type 0 where
+  pub state : IsState clauses s.placed s.levels.items s.watches s.entries
+  pub ready : IsReady (length s.placed.trail.slots.items) s.analysis
+
+-- The steps from this place on were taken back, and an entry was kept. Where it is long enough, two of its
+-- literals have no value there, and else one.
+pub record IsKept (clauses : List Clause) (old new : Solver) (asserting : Lit) (keep place index : ℕ) : Type 0 where
+  pub holds : Holds clauses new
+  pub len : length new.placed.trail.slots.items ≡ length old.placed.trail.slots.items
+  pub more : length new.entries ≡ length old.entries + 1
+  pub steps : new.placed.trail.steps.items ≡ take place old.placed.trail.steps.items
+  pub clause : Clause
+  pub last : known_before clauses new.entries ≡ known_before clauses old.entries ++ clause ∷ []
+  pub index_is : index ≡ length (known_before clauses old.entries)
+  pub guarded : AllGuarded (known_before clauses old.entries) new.watches.pairs.items (falses_of (take place old.placed.trail.steps.items)) (falses_of (take place old.placed.trail.steps.items))
+  pub unit : keep ≤ place → IsUnit (falses_of (take place old.placed.trail.steps.items)) clause.lits asserting
+  pub free : place < keep → (pair : Pair) → slice_get new.watches.pairs.items index ≡ Some pair → IsFree (falses_of (take place old.placed.trail.steps.items)) pair
+  pub below : asserting.variable < length old.placed.trail.slots.items
+
+pub record IsLearned (clauses : List Clause) (old new : Solver) : Type 0 where
+  pub holds : Holds clauses new
+  pub len : length new.placed.trail.slots.items ≡ length old.placed.trail.slots.items
+  pub more : length new.entries ≡ length old.entries + 1
+
+-- what learning comes to
+abbrev pub LearnedIs : List Clause → Solver → Solver → Learning → Type 0
+LearnedIs clauses old new Refuted =
+    IsRefutation clauses new.entries × EntriesAreBelow (length new.placed.trail.slots.items) new.entries × (length new.entries ≡ length old.entries + 1) × (length new.placed.trail.slots.items ≡ length old.placed.trail.slots.items)
+LearnedIs clauses old new Asserted =
+    IsLearned clauses old new × IsAhead (known_before clauses new.entries) new.placed.trail.steps.items new.watches
+LearnedIs clauses old new Restarted =
+    IsLearned clauses old new × AllGuarded (known_before clauses new.entries) new.watches.pairs.items (falses_of new.placed.trail.steps.items) (falses_of new.placed.trail.steps.items)
 
 -- each variable has a value, and each clause is stuck
 pub record IsWhole (clauses : List Clause) (s : Solver) : Type 0 where
-  pub assigned : All (λ slot. slot.assigned ≡ true) s.trail.slots.items
-  pub keeps : Keeps (known_before clauses s.entries) s.trail.slots.items s.trail.steps.items
-  pub stuck : AllStuck (known_before clauses s.entries) (falses_of s.trail.steps.items)
+  pub assigned : All (λ slot. slot.assigned ≡ true) s.placed.trail.slots.items
+  pub keeps : Keeps (known_before clauses s.entries) s.placed.trail.slots.items s.placed.trail.steps.items
+  pub stuck : AllStuck (known_before clauses s.entries) (falses_of s.placed.trail.steps.items)
 
 pub record IsRefuted (clauses : List Clause) (conflicts : ℕ) (s : Solver) : Type 0 where
   pub refutation : IsRefutation clauses s.entries
-  pub below : EntriesAreBelow (length s.trail.slots.items) s.entries
+  pub below : EntriesAreBelow (length s.placed.trail.slots.items) s.entries
   pub within : length s.entries ≤ conflicts
 
 pub record IsAtEnd (clauses : List Clause) (conflicts : ℕ) (s : Solver) : Type 0 where
-  pub entries_are : EntriesAre (length s.trail.slots.items) clauses s.entries
+  pub entries_are : EntriesAre (length s.placed.trail.slots.items) clauses s.entries
   pub all : length s.entries ≡ conflicts
 
 abbrev pub EndingIs : List Clause → ℕ → Solver → Ending → Type 0
-EndingIs clauses conflicts s Satisfied = IsWhole clauses s
-EndingIs clauses conflicts s Refuted = IsRefuted clauses conflicts s
-EndingIs clauses conflicts s Spent = IsAtEnd clauses conflicts s
+EndingIs clauses conflicts s ending.Satisfied = IsWhole clauses s
+EndingIs clauses conflicts s ending.Refuted = IsRefuted clauses conflicts s
+EndingIs clauses conflicts s ending.Spent = IsAtEnd clauses conflicts s
 
 -- what is left to do: entries to learn, and then variables to give a value
 abbrev pub left_of : ℕ → Solver → ℕ
-left_of conflicts s = (conflicts - length s.entries) * (length s.trail.slots.items + 1) + (length s.trail.slots.items - length s.trail.steps.items)
+left_of conflicts s = (conflicts - length s.entries) * (length s.placed.trail.slots.items + 1) + (length s.placed.trail.slots.items - length s.placed.trail.steps.items)
 
 pub record GoesOn (clauses : List Clause) (conflicts left : ℕ) (s : Solver) (conflict : Option ℕ) : Type 0 where
   pub state : Holds clauses s
-  pub answers : Answers (known_before clauses s.entries) s.trail.steps.items conflict
+  pub answers : Answers (known_before clauses s.entries) s.placed.trail.steps.items s.watches conflict
   pub within : length s.entries ≤ conflicts
   pub less : left_of conflicts s < left
 

@@ -1,181 +1,223 @@
-//! What a conflict teaches: one clause, with the hints by which it follows.
-ghost use Rattle.std.specs.Prelude.{◌≡◌, ℕ, ◌+◌, ◌<◌, ◌≤◌, ◌⊎◌, length, IfOk, OnOk, IfSome, IfNone, Some, None, true, slice_get, List};
-ghost use Rattle.sat_check.specs.Clauses.{AreBelow, ClausesAreBelow};
+//! What a conflict teaches: a clause with one literal of the last level, the first by which all
+//! ways of that level lead to the conflict, and the hints by which it follows.
+ghost use Rattle.std.specs.Prelude.{◌≡◌, ℕ, ◌+◌, ◌<◌, ◌≤◌, ◌⊎◌, ◌++◌, length, IfOk, OnOk, IfSome, IsSome, List, Some, true, option_to_list};
+ghost use Rattle.sat_check.specs.Clauses.{ClausesAreBelow};
 ghost use Rattle.sat_check.specs.Logs.{EntriesAreBelow, known_before};
-ghost use Rattle.sat_search.specs.Trails.{Keeps, falses_of};
+ghost use Rattle.sat_search.specs.Trails.{falses_of};
 ghost use Rattle.sat_search.specs.Propagation.{IsConflict};
-ghost use Rattle.sat_search.specs.Analysis.{AllMarked, IsLastLevel, Walked, Learns};
-ghost use Rattle.sat_check.specs.declared.clause.Clause.{Clause as OneClause};
+ghost use Rattle.sat_search.specs.Watches.{IsTrail};
+ghost use Rattle.sat_search.specs.Analysis.{IsLastLevel};
+ghost use Rattle.sat_search.specs.Learning.{Learns, IsBase, IsLate, IsFalseAt, KeepIs};
+ghost use Rattle.sat_search.specs.States.{LevelsAre, IsStart};
+ghost use Rattle.sat_search.specs.Marks.{IsReady};
+ghost use Rattle.sat_check.specs.declared.clause.Lit.{Lit as OneLit};
 
-use crate::trail::{Step, Trail};
-use sat_check::{Clause, Entry, Hints, Lit, Lits, named};
+use crate::gathering::{Gathering, Levels};
+use crate::placed::PlacedTrail;
+use crate::plain::analysis as plain;
+use crate::trail::Trail;
+use sat_check::{Clause, Entry, Hints, Lit, Lits};
 use std::alloc::{AllocError, Global};
 
-/// A clause that follows, and how much of the trail before the last level it speaks of.
+/// A clause that follows, its literal of the last level, and how much of the trail before that
+/// level it speaks of.
 #[derive(Drop)]
 pub(crate) struct Learned {
     pub(crate) entry: Entry,
+    pub(crate) asserting: Option<Lit>,
     pub(crate) keep: usize,
 }
 
-// The trail is gone over from its end. A marked literal is one that the clause would need: it is
-// replaced by the others of its reason, or it stays in the clause.
+/// What was gathered of a conflict, and a trail for the walk that tries it.
 #[derive(Drop)]
-struct Analysis {
-    marks: Vec<bool>,
-    lits: Lits,
-    hints: Vec<u32>,
-    keep: usize,
+pub(crate) struct Analysis {
+    pub(crate) gathering: Gathering,
+    pub(crate) walk: Trail,
 }
 
 impl Analysis {
-    fn begin(
+    pub(crate) fn new(alloc: Global, variables: u32) -> Result<Analysis, AllocError>
+        ensures { IfOk result (IsReady variables) }
+    {
+        let gathering = Gathering::new(alloc, variables)?;
+        let walk = Trail::new(alloc, variables)?;
+        Ok(Analysis { gathering, walk })
+    }
+
+    // Learns what was gathered, if that is right.
+    fn learned(
+        &mut self,
         alloc: Global,
-        trail: &Trail,
+        placed: &PlacedTrail,
+        clauses: &[Clause],
+        entries: &[Entry],
+        levels: Levels,
+    ) -> Result<Option<Learned>, AllocError>
+        requires ready { IsReady (length placed.now.trail.slots.items) self.old }
+        requires clauses_below { ClausesAreBelow (length placed.now.trail.slots.items) clauses.now }
+        requires entries_below { EntriesAreBelow (length placed.now.trail.slots.items) entries.now }
+        ensures ready { OnOk result (IsReady (length placed.now.trail.slots.items) self.new) }
+        ensures leveled { IfOk result (λ found. IfSome found (λ learned. IsSome learned.asserting → levels.base < length placed.now.trail.steps.items)) }
+        ensures learns { IfOk result (λ found. IfSome found (λ learned. Learns (known_before clauses.now entries.now) placed.now.trail.steps.items levels.start learned.entry.clause.lits learned.entry.hints learned.asserting learned.keep)) }
+    {
+        let asserting = self.gathering.asserting;
+        if !is_late(placed, asserting, levels) {
+            return Ok(None);
+        }
+        let kept = self.gathering.kept.as_slice();
+        let Some(keep) = keep_of(placed, kept, levels.start) else {
+            return Ok(None);
+        };
+        let lits = lits_of(alloc, kept, asserting)?;
+        let reasons = self.gathering.reasons.as_slice();
+        let hints = self
+            .walk
+            .walk(alloc, clauses, entries, lits.as_slice(), reasons)?;
+        let Some(hints) = hints else {
+            return Ok(None);
+        };
+        let clause = Clause {
+            lits: Lits::from_vec(lits),
+        };
+        let hints = Hints::from_vec(hints);
+        Ok(Some(Learned {
+            entry: Entry { clause, hints },
+            asserting,
+            keep,
+        }))
+    }
+
+    /// Learns from a clause that is false.
+    pub(crate) fn analyze(
+        &mut self,
+        alloc: Global,
+        placed: &PlacedTrail,
         clauses: &[Clause],
         entries: &[Entry],
         conflict: u32,
-    ) -> Result<Analysis, AllocError>
-        requires clauses_below { ClausesAreBelow (length trail.now.slots.items) clauses.now }
-        requires entries_below { EntriesAreBelow (length trail.now.slots.items) entries.now }
-        requires conflict { IsConflict (known_before clauses.now entries.now) (falses_of trail.now.steps.items) conflict }
-        ensures len { IfOk result (λ a. length a.marks.items ≡ length trail.now.slots.items) }
-        ensures walked { IfOk result (λ a. (start : ℕ) → Walked (known_before clauses.now entries.now) trail.now.steps.items start (length trail.now.steps.items) a.marks.items a.lits a.hints.items a.keep) }
+        levels: Levels,
+    ) -> Result<Learned, AllocError>
+        requires trail { IsTrail (known_before clauses.now entries.now) placed.now }
+        requires ready { IsReady (length placed.now.trail.slots.items) self.old }
+        requires last_level { IsLastLevel placed.now.trail.steps.items levels.start }
+        requires levels { (places : List ℕ) × LevelsAre (known_before clauses.now entries.now) placed.now.trail.steps.items places × IsStart places levels.start }
+        requires base { IsBase placed.now.trail.steps.items levels.base }
+        requires conflict { IsConflict (known_before clauses.now entries.now) (falses_of placed.now.trail.steps.items) conflict }
+        requires clauses_below { ClausesAreBelow (length placed.now.trail.slots.items) clauses.now }
+        requires entries_below { EntriesAreBelow (length placed.now.trail.slots.items) entries.now }
+        ensures leveled { IfOk result (λ learned. IsSome learned.asserting → levels.base < length placed.now.trail.steps.items) }
+        ensures ready { OnOk result (IsReady (length placed.now.trail.slots.items) self.new) }
+        ensures learns { IfOk result (λ learned. Learns (known_before clauses.now entries.now) placed.now.trail.steps.items levels.start learned.entry.clause.lits learned.entry.hints learned.asserting learned.keep) }
     {
-        let mut marks = vec![in alloc; false; trail.slots.len()]?;
-        mark(&mut marks, clauses, entries, conflict);
-        let mut hints = Vec::new(alloc);
-        hints.push(conflict)?;
-        Ok(Analysis {
-            marks,
-            lits: Lits::new(alloc),
-            hints,
-            keep: 0,
-        })
-    }
-
-    // Goes over the step at `at`.
-    fn step_back(
-        &mut self,
-        trail: &Trail,
-        clauses: &[Clause],
-        entries: &[Entry],
-        at: usize,
-        start: usize,
-        first: usize,
-    ) -> Result<(), AllocError>
-        requires within { at < length trail.now.steps.items }
-        requires keeps { Keeps (known_before clauses.now entries.now) trail.now.slots.items trail.now.steps.items }
-        requires last_level { IsLastLevel trail.now.steps.items start }
-        requires len { length self.old.marks.items ≡ length trail.now.slots.items }
-        requires clauses_below { ClausesAreBelow (length trail.now.slots.items) clauses.now }
-        requires entries_below { EntriesAreBelow (length trail.now.slots.items) entries.now }
-        requires walked { Walked (known_before clauses.now entries.now) trail.now.steps.items start (at + 1) self.old.marks.items self.old.lits self.old.hints.items self.old.keep }
-        ensures len { length self.new.marks.items ≡ length self.old.marks.items }
-        ensures walked { OnOk result (Walked (known_before clauses.now entries.now) trail.now.steps.items start at self.new.marks.items self.new.lits self.new.hints.items self.new.keep) }
-    {
-        let step = trail.steps[at];
-        let variable = step.falsified.variable as usize;
-        if !self.marks[variable] {
-            return Ok(());
+        self.gathering
+            .gather(placed, clauses, entries, conflict, levels)?;
+        let found = self.learned(alloc, placed, clauses, entries, levels)?;
+        if let Some(learned) = found {
+            return Ok(learned);
         }
-        match replaced_by(step, at, start, first) {
-            Some(index) => {
-                mark(&mut self.marks, clauses, entries, index);
-                self.hints.push(index)?;
-            }
-            None => {
-                self.keep = kept_from(self.keep, at, start);
-                self.lits.push(step.falsified)?;
-            }
-        }
-        self.marks[variable] = false;
-        Ok(())
+        let learned = analyze_plainly(alloc, placed, clauses, entries, conflict, levels)?;
+        Ok(learned)
     }
 }
 
-// The clause that replaces a step's literal: its reason, on the last level, which begins at
-// `start`, and before any decision, up to `first`.
-fn replaced_by(step: Step, at: usize, start: usize, first: usize) -> Option<u32>
-    ensures reason { IfSome result (λ index. step.reason ≡ Some index) }
-    ensures stays { IfNone result ((at < start) ⊎ (step.reason ≡ None)) }
+// The place at which a literal became false, if it did.
+fn place_of(placed: &PlacedTrail, lit: Lit) -> Option<usize>
+    ensures { IfSome result (λ place. IsFalseAt placed.now.trail.steps.items lit place) }
 {
-    if first <= at && at < start {
+    let place = *placed.places.get(lit.variable as usize)?;
+    let step = placed.trail.steps.get(place)?;
+    if step.falsified == lit {
+        Some(place)
+    } else {
         None
-    } else {
-        step.reason
     }
 }
 
-// The first place that stays is the last before the level.
-fn kept_from(keep: usize, at: usize, start: usize) -> usize
-    requires { at < 18446744073709551615 }
-    ensures first { at < start → keep ≡ 0 → result ≡ at + 1 }
-    ensures later { 0 < keep → result ≡ keep }
-    ensures none { start ≤ at → result ≡ keep }
+// Whether the literal, if there is one, became false on the last level, and by a decision or later.
+fn is_late(placed: &PlacedTrail, asserting: Option<Lit>, levels: Levels) -> bool
+    ensures { result ≡ true → (lit : OneLit) → asserting ≡ Some lit → IsLate placed.now.trail.steps.items levels.start lit × (levels.base < length placed.now.trail.steps.items) }
 {
-    if at < start && keep == 0 {
-        at + 1
-    } else {
-        keep
-    }
+    let Some(lit) = asserting else {
+        return true;
+    };
+    let Some(place) = place_of(placed, lit) else {
+        return false;
+    };
+    levels.start <= place && levels.base <= place
 }
 
-// Marks the variables of a clause.
-fn mark(marks: &mut Vec<bool>, clauses: &[Clause], entries: &[Entry], index: u32)
-    requires clauses_below { ClausesAreBelow (length marks.old.items) clauses.now }
-    requires entries_below { EntriesAreBelow (length marks.old.items) entries.now }
-    ensures len { length marks.new.items ≡ length marks.old.items }
-    ensures kept { (variable : ℕ) → slice_get marks.old.items variable ≡ Some true → slice_get marks.new.items variable ≡ Some true }
-    ensures marked { (clause : OneClause) → slice_get (known_before clauses.now entries.now) index ≡ Some clause → AllMarked marks.new.items clause.lits }
+// How much of the trail the literals speak of, if they all became false before `start`.
+fn keep_of(placed: &PlacedTrail, lits: &[Lit], start: usize) -> Option<usize>
+    ensures { IfSome result (KeepIs placed.now.trail.steps.items lits.now start) }
 {
-    if let Some(lits) = named(clauses, entries, index) {
-        mark_lits(marks, lits);
-    }
-}
-
-fn mark_lits(marks: &mut Vec<bool>, lits: &[Lit])
-    requires { AreBelow (length marks.old.items) lits.now }
-    ensures len { length marks.new.items ≡ length marks.old.items }
-    ensures kept { (variable : ℕ) → slice_get marks.old.items variable ≡ Some true → slice_get marks.new.items variable ≡ Some true }
-    ensures marked { AllMarked marks.new.items lits.now }
-{
+    let mut keep = 0;
     for lit in lits {
-        marks[lit.variable as usize] = true;
+        let place = place_of(placed, *lit)?;
+        if place >= start {
+            return None;
+        }
+        keep = later(keep, place);
     }
+    Some(keep)
 }
 
-/// Learns from a clause that is false. The last level begins at `start`, and `first` is where the
-/// first does.
-pub(crate) fn analyze(
+fn later(keep: usize, place: usize) -> usize
+    requires { place < 18446744073709551615 }
+    ensures { ((keep ≤ place) × (result ≡ place + 1)) ⊎ ((place < keep) × (result ≡ keep)) }
+{
+    if place >= keep { place + 1 } else { keep }
+}
+
+fn lits_of(alloc: Global, kept: &[Lit], asserting: Option<Lit>) -> Result<Vec<Lit>, AllocError>
+    ensures { IfOk result (λ lits. lits.items ≡ kept.now ++ option_to_list asserting) }
+{
+    let mut lits = Vec::with_capacity(alloc, kept.len() + 1)?;
+    lits.extend_from_slice(kept)?;
+    if let Some(lit) = asserting {
+        lits.push(lit)?;
+    }
+    Ok(lits)
+}
+
+// Learns as the plain search does, where nothing else was right.
+fn analyze_plainly(
     alloc: Global,
-    trail: &Trail,
+    placed: &PlacedTrail,
     clauses: &[Clause],
     entries: &[Entry],
     conflict: u32,
-    start: usize,
-    first: usize,
+    levels: Levels,
 ) -> Result<Learned, AllocError>
-    requires keeps { Keeps (known_before clauses.now entries.now) trail.now.slots.items trail.now.steps.items }
-    requires last_level { IsLastLevel trail.now.steps.items start }
-    requires conflict { IsConflict (known_before clauses.now entries.now) (falses_of trail.now.steps.items) conflict }
-    requires clauses_below { ClausesAreBelow (length trail.now.slots.items) clauses.now }
-    requires entries_below { EntriesAreBelow (length trail.now.slots.items) entries.now }
-    ensures { IfOk result (λ learned. Learns (known_before clauses.now entries.now) trail.now.steps.items start learned.entry.clause.lits learned.entry.hints learned.keep) }
+    requires trail { IsTrail (known_before clauses.now entries.now) placed.now }
+    requires last_level { IsLastLevel placed.now.trail.steps.items levels.start }
+    requires levels { (places : List ℕ) × LevelsAre (known_before clauses.now entries.now) placed.now.trail.steps.items places × IsStart places levels.start }
+    requires base { IsBase placed.now.trail.steps.items levels.base }
+    requires conflict { IsConflict (known_before clauses.now entries.now) (falses_of placed.now.trail.steps.items) conflict }
+    requires clauses_below { ClausesAreBelow (length placed.now.trail.slots.items) clauses.now }
+    requires entries_below { EntriesAreBelow (length placed.now.trail.slots.items) entries.now }
+    ensures leveled { IfOk result (λ learned. IsSome learned.asserting → levels.base < length placed.now.trail.steps.items) }
+    ensures learns { IfOk result (λ learned. Learns (known_before clauses.now entries.now) placed.now.trail.steps.items levels.start learned.entry.clause.lits learned.entry.hints learned.asserting learned.keep) }
 {
-    let mut analysis = Analysis::begin(alloc, trail, clauses, entries, conflict)?;
-    let mut at = trail.steps.len();
-    while at > 0 {
-        at -= 1;
-        analysis.step_back(trail, clauses, entries, at, start, first)?;
+    let plain::Learned { entry, keep } = plain::analyze(
+        alloc,
+        &placed.trail,
+        clauses,
+        entries,
+        conflict,
+        levels.start,
+        levels.base,
+    )?;
+    if entry.clause.lits.is_empty() {
+        return Ok(Learned {
+            entry,
+            asserting: None,
+            keep,
+        });
     }
-    analysis.hints.reverse();
-    let clause = Clause {
-        lits: analysis.lits,
-    };
-    let hints = Hints::from_vec(analysis.hints);
+    let asserting = placed.trail.steps[levels.start].falsified;
     Ok(Learned {
-        entry: Entry { clause, hints },
-        keep: analysis.keep,
+        entry,
+        asserting: Some(asserting),
+        keep,
     })
 }

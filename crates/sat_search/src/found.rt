@@ -1,7 +1,10 @@
 //! What a search finds.
-ghost use Rattle.std.specs.Prelude.{◌≡◌};
+ghost use Rattle.std.specs.Prelude.{◌≡◌, IfOk};
+ghost use Rattle.sat_search.specs.Trails.{values_of};
 
+use crate::trail::Slot;
 use sat_check::Log;
+use std::alloc::{AllocError, Global};
 use std::marker::Model;
 
 /// A value for each variable, which contracts see as a list.
@@ -50,4 +53,15 @@ pub enum Found {
     Refuted(Log),
     /// As many entries as were allowed, each of which follows and is new.
     Spent(Log),
+}
+
+// The slots tell which literal is false, and so the value is the other.
+pub(crate) fn values_by(alloc: Global, slots: &[Slot]) -> Result<Values, AllocError>
+    ensures { IfOk result (λ values. values ≡ values_of slots.now) }
+{
+    let mut values = Vec::new(alloc);
+    for slot in slots {
+        values.push(!slot.positive)?;
+    }
+    Ok(Values::from_vec(values))
 }

@@ -1,21 +1,34 @@
 //! The search for an assignment that satisfies clauses, or for a log that refutes them.
 //!
 //! It is a search by conflicts (Marques-Silva and Sakallah, "GRASP", 1999): decide, propagate
-//! until nothing more follows, and at a conflict learn one clause and jump back. What it learns
-//! is an entry of a log that `sat_check` follows, so nobody has to trust the search.
+//! until nothing more follows, and at a conflict learn one clause and jump back. Propagation looks
+//! only at the clauses that watch what became false, the variables of what was learned lately are
+//! decided first, and from time to time all decisions are taken back (Moskewicz, Madigan, Zhao,
+//! Zhang and Malik, "Chaff", 2001). What it learns is an entry of a log that `sat_check` follows,
+//! so nobody has to trust the search. `plain_search` is the same without all this.
 #![tactic(auto)]
 
 mod analysis;
+mod beginning;
 mod found;
-mod occurrences;
+mod gathering;
+mod order;
+mod placed;
+mod plain;
 mod propagation;
+mod restarts;
 mod running;
 mod searching;
 mod solver;
 mod trail;
+mod walk;
+mod watches;
 
 pub use found::{Found, Values};
+pub use plain::plain_search;
 pub use searching::search;
 
+#[cfg(test)]
+mod table_tests;
 #[cfg(test)]
 mod tests;

@@ -1,109 +1,235 @@
 //! Propagation: what follows from the values by the clauses, one literal after another.
-ghost use Rattle.std.specs.Prelude.{◌≡◌, ◌<◌, ◌≤◌, ◌^◌, [], length, IfOk};
-ghost use Rattle.sat_check.specs.Clauses.{ClausesAreBelow};
+ghost use Rattle.std.specs.Prelude.{◌≡◌, ℕ, ◌+◌, ◌<◌, ◌≤◌, ◌≢◌, ◌⊎◌, ◌++◌, ◌∷◌, [], length, take, IfOk, IfSome, IfNone, IsTrue, OnOk, ◌↔◌, List, Some, None, slice_get};
+ghost use Rattle.std.specs.List.{Contains};
+ghost use Rattle.sat_check.specs.Clauses.{AreBelow, ClausesAreBelow, opposite_of};
 ghost use Rattle.sat_check.specs.Logs.{EntriesAreBelow, known_before};
-ghost use Rattle.sat_search.specs.Trails.{Keeps};
-ghost use Rattle.sat_search.specs.Occurrences.{IsComplete};
-ghost use Rattle.sat_search.specs.Propagation.{AllSettled, Visits, VisitsAll, Propagates, Begins};
+ghost use Rattle.sat_search.specs.Trails.{Shows, falses_of};
+ghost use Rattle.sat_search.specs.Watches.{IsTrail, AreWatched, AllGuarded, watchers_of};
+ghost use Rattle.sat_search.specs.Looks.{OtherIs, IsLookedAt, IsRewatched, LookIs, PassIs, Propagates};
+ghost use Rattle.sat_check.specs.declared.clause.Lit.{Lit as OneLit};
 
-use crate::occurrences::Occurrences;
-use crate::trail::{Reading, Trail, read};
-use sat_check::{Clause, Entry, named};
+use crate::placed::PlacedTrail;
+use crate::trail::Slot;
+use crate::watches::{Pair, Watcher, Watches};
+use sat_check::{Clause, Entry, Lit, named};
 use std::alloc::AllocError;
 
-// Looks at the clause of that number: one literal left becomes true, none left is a conflict.
-fn visit(
-    trail: &mut Trail,
-    clauses: &[Clause],
-    entries: &[Entry],
-    index: u32,
-) -> Result<bool, AllocError>
-    requires keeps { Keeps (known_before clauses.now entries.now) trail.old.slots.items trail.old.steps.items }
-    requires clauses_below { ClausesAreBelow (length trail.old.slots.items) clauses.now }
-    requires entries_below { EntriesAreBelow (length trail.old.slots.items) entries.now }
-    ensures len { length trail.new.slots.items ≡ length trail.old.slots.items }
-    ensures visits { IfOk result (Visits (known_before clauses.now entries.now) trail.old.steps.items trail.new.slots.items trail.new.steps.items index) }
+/// What a look at a watcher comes to.
+#[derive(Clone, Copy)]
+pub(crate) enum Look {
+    /// It stays in its list.
+    Stays,
+    /// It was taken out of its list, and the last took its place.
+    Leaves,
+    /// The clause of that number is false.
+    Conflict(u32),
+}
+
+/// Whether the literal is false.
+pub(crate) fn is_false(slots: &[Slot], lit: Lit) -> bool
+    requires { lit.variable < length slots.now }
+    ensures { (falses : List OneLit) → Shows slots.now falses → IsTrue result ↔ Contains falses lit }
 {
-    let Some(lits) = named(clauses, entries, index) else {
-        return Ok(false);
-    };
-    match read(trail.slots.as_slice(), lits) {
-        Reading::AllFalse => Ok(true),
-        Reading::Single(lit) => {
-            trail.assign(lit.opposite(), Some(index))?;
-            Ok(false)
-        }
-        Reading::Neither => Ok(false),
+    let slot = slots[lit.variable as usize];
+    slot.assigned && slot.positive == lit.positive
+}
+
+/// Whether the literal is true.
+pub(crate) fn is_true(slots: &[Slot], lit: Lit) -> bool
+    requires { lit.variable < length slots.now }
+    ensures { (falses : List OneLit) → Shows slots.now falses → IsTrue result ↔ Contains falses (opposite_of lit) }
+{
+    is_false(slots, lit.opposite())
+}
+
+// The literal that is watched beside this one, if this one is watched.
+fn other_of(pair: Pair, lit: Lit) -> Option<Lit>
+    ensures { OtherIs pair lit result }
+{
+    if pair.first == pair.second {
+        None
+    } else if pair.first == lit {
+        Some(pair.second)
+    } else if pair.second == lit {
+        Some(pair.first)
+    } else {
+        None
     }
 }
 
-// Looks at each of these clauses, up to the first conflict.
-fn visit_all(
-    trail: &mut Trail,
-    clauses: &[Clause],
-    entries: &[Entry],
-    indices: &[u32],
-) -> Result<Option<u32>, AllocError>
-    requires keeps { Keeps (known_before clauses.now entries.now) trail.old.slots.items trail.old.steps.items }
-    requires clauses_below { ClausesAreBelow (length trail.old.slots.items) clauses.now }
-    requires entries_below { EntriesAreBelow (length trail.old.slots.items) entries.now }
-    ensures len { length trail.new.slots.items ≡ length trail.old.slots.items }
-    ensures visits { IfOk result (VisitsAll (known_before clauses.now entries.now) trail.old.steps.items trail.new.slots.items trail.new.steps.items indices.now) }
+// The first literal but this one that isn't false.
+fn replacement(slots: &[Slot], lits: &[Lit], other: Lit) -> Option<Lit>
+    requires { AreBelow (length slots.now) lits.now }
+    ensures found { IfSome result (λ lit. Contains lits.now lit × (lit ≢ other) × ((falses : List OneLit) → Shows slots.now falses → ¬ Contains falses lit)) }
+    ensures none { IfNone result ((falses : List OneLit) → Shows slots.now falses → (lit : OneLit) → Contains lits.now lit → (lit ≡ other) ⊎ Contains falses lit) }
 {
-    for index in indices {
-        if visit(trail, clauses, entries, *index)? {
-            return Ok(Some(*index));
+    for lit in lits {
+        if *lit != other && !is_false(slots, *lit) {
+            return Some(*lit);
         }
     }
-    Ok(None)
+    None
 }
 
-/// Looks at each clause once, and gives the number of one that is false.
-pub(crate) fn visit_clauses(
-    trail: &mut Trail,
-    clauses: &[Clause],
-) -> Result<Option<u32>, AllocError>
-    requires keeps { Keeps (known_before clauses.now []) trail.old.slots.items trail.old.steps.items }
-    requires clauses_below { ClausesAreBelow (length trail.old.slots.items) clauses.now }
-    requires few { length clauses.now < 2 ^ 32 }
-    ensures len { length trail.new.slots.items ≡ length trail.old.slots.items }
-    ensures begins { IfOk result (Begins (known_before clauses.now []) trail.old.steps.items trail.new.slots.items trail.new.steps.items) }
-{
-    for index in 0..clauses.len() {
-        if visit(trail, clauses, &[], index as u32)? {
-            return Ok(Some(index as u32));
+impl Watches {
+    // Looks at the watcher at that place of the list of a literal that became false.
+    fn look(
+        &mut self,
+        placed: &mut PlacedTrail,
+        clauses: &[Clause],
+        entries: &[Entry],
+        falsified: Lit,
+        place: usize,
+    ) -> Result<Look, AllocError>
+        requires trail { IsTrail (known_before clauses.now entries.now) placed.old }
+        requires watched { AreWatched (length placed.old.trail.slots.items) (known_before clauses.now entries.now) self.old }
+        requires is_false { Contains (falses_of placed.old.trail.steps.items) falsified }
+        requires within { place < length (watchers_of self.old falsified) }
+        requires clauses_below { ClausesAreBelow (length placed.old.trail.slots.items) clauses.now }
+        requires entries_below { EntriesAreBelow (length placed.old.trail.slots.items) entries.now }
+        ensures { IfOk result (LookIs (known_before clauses.now entries.now) placed.old placed.new self.old self.new falsified place) }
+    {
+        let watcher = self.of(falsified)[place];
+        if is_true(placed.trail.slots.as_slice(), watcher.blocker) {
+            return Ok(Look::Stays);
         }
+        let pair = self.pairs[watcher.index as usize];
+        let Some(other) = other_of(pair, falsified) else {
+            self.remove(falsified, place);
+            return Ok(Look::Leaves);
+        };
+        if is_true(placed.trail.slots.as_slice(), other) {
+            return Ok(Look::Stays);
+        }
+        let look = self.look_on(
+            placed,
+            clauses,
+            entries,
+            falsified,
+            place,
+            watcher.index,
+            other,
+        )?;
+        Ok(look)
     }
-    Ok(None)
-}
 
-/// Propagates the steps from `head` on, and those that come of them, and gives the number of a
-/// clause that is false.
-pub(crate) fn propagate(
-    trail: &mut Trail,
-    clauses: &[Clause],
-    entries: &[Entry],
-    occurrences: &Occurrences,
-    mut head: usize,
-) -> Result<Option<u32>, AllocError>
-    requires keeps { Keeps (known_before clauses.now entries.now) trail.old.slots.items trail.old.steps.items }
-    requires settled { AllSettled (known_before clauses.now entries.now) trail.old.steps.items head }
-    requires within { head ≤ length trail.old.steps.items }
-    requires complete { IsComplete (known_before clauses.now entries.now) occurrences.now.positive.items occurrences.now.negative.items }
-    requires positive { length occurrences.now.positive.items ≡ length trail.old.slots.items }
-    requires negative { length occurrences.now.negative.items ≡ length trail.old.slots.items }
-    requires clauses_below { ClausesAreBelow (length trail.old.slots.items) clauses.now }
-    requires entries_below { EntriesAreBelow (length trail.old.slots.items) entries.now }
-    ensures len { length trail.new.slots.items ≡ length trail.old.slots.items }
-    ensures propagates { IfOk result (Propagates (known_before clauses.now entries.now) trail.old.steps.items trail.new.slots.items trail.new.steps.items) }
-{
-    while head < trail.steps.len() {
-        let falsified = trail.steps[head].falsified;
-        let indices = occurrences.of(falsified);
-        if let Some(conflict) = visit_all(trail, clauses, entries, indices)? {
-            return Ok(Some(conflict));
+    // Looks at the clause itself, of which the other literal that it watches isn't true.
+    fn look_on(
+        &mut self,
+        placed: &mut PlacedTrail,
+        clauses: &[Clause],
+        entries: &[Entry],
+        falsified: Lit,
+        place: usize,
+        index: u32,
+        other: Lit,
+    ) -> Result<Look, AllocError>
+        requires trail { IsTrail (known_before clauses.now entries.now) placed.old }
+        requires watched { AreWatched (length placed.old.trail.slots.items) (known_before clauses.now entries.now) self.old }
+        requires is_false { Contains (falses_of placed.old.trail.steps.items) falsified }
+        requires at { IsLookedAt self.old falsified place index other }
+        requires not_true { ¬ Contains (falses_of placed.old.trail.steps.items) (opposite_of other) }
+        requires clauses_below { ClausesAreBelow (length placed.old.trail.slots.items) clauses.now }
+        requires entries_below { EntriesAreBelow (length placed.old.trail.slots.items) entries.now }
+        ensures { IfOk result (LookIs (known_before clauses.now entries.now) placed.old placed.new self.old self.new falsified place) }
+    {
+        let Some(lits) = named(clauses, entries, index) else {
+            unreachable!()
+        };
+        if let Some(lit) = replacement(placed.trail.slots.as_slice(), lits, other) {
+            self.rewatch(falsified, place, index, other, lit)?;
+            return Ok(Look::Leaves);
         }
-        head += 1;
+        if is_false(placed.trail.slots.as_slice(), other) {
+            return Ok(Look::Conflict(index));
+        }
+        placed.assign(other.opposite(), Some(index))?;
+        Ok(Look::Stays)
     }
-    Ok(None)
+
+    // The clause watches another literal from now on in place of the one that became false.
+    fn rewatch(
+        &mut self,
+        falsified: Lit,
+        place: usize,
+        index: u32,
+        other: Lit,
+        lit: Lit,
+    ) -> Result<(), AllocError>
+        requires falsified_positive { falsified.variable < length self.old.positive.items }
+        requires falsified_negative { falsified.variable < length self.old.negative.items }
+        requires positive { lit.variable < length self.old.positive.items }
+        requires negative { lit.variable < length self.old.negative.items }
+        requires within { place < length (watchers_of self.old falsified) }
+        requires index { index < length self.old.pairs.items }
+        requires apart { lit ≢ falsified }
+        ensures { OnOk result (IsRewatched self.old self.new falsified place index other lit) }
+    {
+        self.push(
+            lit,
+            Watcher {
+                index,
+                blocker: other,
+            },
+        )?;
+        self.remove(falsified, place);
+        self.pairs[index as usize] = Pair {
+            first: other,
+            second: lit,
+        };
+        Ok(())
+    }
+
+    // Looks at each clause that watches a literal that became false, up to the first conflict.
+    fn pass(
+        &mut self,
+        placed: &mut PlacedTrail,
+        clauses: &[Clause],
+        entries: &[Entry],
+        falsified: Lit,
+    ) -> Result<Option<u32>, AllocError>
+        requires trail { IsTrail (known_before clauses.now entries.now) placed.old }
+        requires watched { AreWatched (length placed.old.trail.slots.items) (known_before clauses.now entries.now) self.old }
+        requires is_false { Contains (falses_of placed.old.trail.steps.items) falsified }
+        requires clauses_below { ClausesAreBelow (length placed.old.trail.slots.items) clauses.now }
+        requires entries_below { EntriesAreBelow (length placed.old.trail.slots.items) entries.now }
+        ensures { IfOk result (PassIs (known_before clauses.now entries.now) placed.old placed.new self.old self.new falsified) }
+    {
+        let mut place = 0;
+        while place < self.of(falsified).len() {
+            match self.look(placed, clauses, entries, falsified, place)? {
+                Look::Stays => place += 1,
+                Look::Leaves => {}
+                Look::Conflict(index) => return Ok(Some(index)),
+            }
+        }
+        Ok(None)
+    }
+
+    /// Propagates the steps from `head` on, and those that come of them, and gives the number of a
+    /// clause that is false.
+    pub(crate) fn propagate(
+        &mut self,
+        placed: &mut PlacedTrail,
+        clauses: &[Clause],
+        entries: &[Entry],
+        mut head: usize,
+    ) -> Result<Option<u32>, AllocError>
+        requires trail { IsTrail (known_before clauses.now entries.now) placed.old }
+        requires watched { AreWatched (length placed.old.trail.slots.items) (known_before clauses.now entries.now) self.old }
+        requires within { head ≤ length placed.old.trail.steps.items }
+        requires guarded { AllGuarded (known_before clauses.now entries.now) self.old.pairs.items (falses_of placed.old.trail.steps.items) (falses_of (take head placed.old.trail.steps.items)) }
+        requires clauses_below { ClausesAreBelow (length placed.old.trail.slots.items) clauses.now }
+        requires entries_below { EntriesAreBelow (length placed.old.trail.slots.items) entries.now }
+        ensures { IfOk result (Propagates (known_before clauses.now entries.now) placed.old placed.new self.old self.new) }
+    {
+        while head < placed.trail.steps.len() {
+            let falsified = placed.trail.steps[head].falsified;
+            if let Some(conflict) = self.pass(placed, clauses, entries, falsified)? {
+                return Ok(Some(conflict));
+            }
+            head += 1;
+        }
+        Ok(None)
+    }
 }

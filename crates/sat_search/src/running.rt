@@ -1,13 +1,14 @@
 //! A search from its start to its end, turn by turn.
-ghost use Rattle.std.specs.Prelude.{◌≡◌, ℕ, ◌<◌, ◌≤◌, ◌^◌, length, IfOk};
+ghost use Rattle.std.specs.Prelude.{◌≡◌, ℕ, ◌<◌, ◌≤◌, ◌^◌, length, IfOk, OnOk};
 ghost use Rattle.sat_check.specs.Clauses.{ClausesAreBelow};
 ghost use Rattle.sat_check.specs.Logs.{known_before};
-ghost use Rattle.sat_search.specs.Trails.{AllStuck, falses_of};
+ghost use Rattle.sat_search.specs.Trails.{falses_of};
+ghost use Rattle.sat_search.specs.Watches.{AllGuarded};
 ghost use Rattle.sat_search.specs.Propagation.{IsConflict};
 ghost use Rattle.sat_search.specs.States.{Answers};
 ghost use Rattle.sat_search.specs.Turns.{Holds, EndingIs, TurnIs, left_of};
 
-use crate::solver::Solver;
+use crate::solver::{Learning, Solver};
 use sat_check::Clause;
 use std::alloc::{AllocError, Global};
 
@@ -36,30 +37,33 @@ impl Solver {
         index: u32,
     ) -> Result<Turn, AllocError>
         requires state { Holds clauses.now self.old }
-        requires conflict { IsConflict (known_before clauses.now self.old.entries) (falses_of self.old.trail.steps.items) index }
-        requires below { ClausesAreBelow (length self.old.trail.slots.items) clauses.now }
+        requires conflict { IsConflict (known_before clauses.now self.old.entries) (falses_of self.old.placed.trail.steps.items) index }
+        requires below { ClausesAreBelow (length self.old.placed.trail.slots.items) clauses.now }
         requires within { length self.old.entries ≤ conflicts }
-        ensures len { length self.new.trail.slots.items ≡ length self.old.trail.slots.items }
+        ensures len { OnOk result (length self.new.placed.trail.slots.items ≡ length self.old.placed.trail.slots.items) }
         ensures turn { IfOk result (TurnIs clauses.now conflicts (left_of conflicts self.old) self.new) }
     {
         if self.entries.len() as u64 >= conflicts {
             return Ok(Turn::Ends(Ending::Spent));
         }
-        if self.learn(alloc, clauses, index)? {
-            return Ok(Turn::Ends(Ending::Refuted));
+        match self.learn(alloc, clauses, index)? {
+            Learning::Refuted => Ok(Turn::Ends(Ending::Refuted)),
+            Learning::Restarted => Ok(Turn::Goes(None)),
+            Learning::Asserted => {
+                let next = self.propagate(clauses)?;
+                Ok(Turn::Goes(next))
+            }
         }
-        let next = self.propagate(clauses)?;
-        Ok(Turn::Goes(next))
     }
 
     // The turn where no clause is false: it decides, if a variable is left.
     fn decide_turn(&mut self, clauses: &[Clause], conflicts: u64) -> Result<Turn, AllocError>
         requires state { Holds clauses.now self.old }
-        requires stuck { AllStuck (known_before clauses.now self.old.entries) (falses_of self.old.trail.steps.items) }
-        requires below { ClausesAreBelow (length self.old.trail.slots.items) clauses.now }
-        requires few { length self.old.trail.slots.items < 2 ^ 32 }
+        requires guarded { AllGuarded (known_before clauses.now self.old.entries) self.old.watches.pairs.items (falses_of self.old.placed.trail.steps.items) (falses_of self.old.placed.trail.steps.items) }
+        requires below { ClausesAreBelow (length self.old.placed.trail.slots.items) clauses.now }
+        requires few { length self.old.placed.trail.slots.items < 2 ^ 32 }
         requires within { length self.old.entries ≤ conflicts }
-        ensures len { length self.new.trail.slots.items ≡ length self.old.trail.slots.items }
+        ensures len { OnOk result (length self.new.placed.trail.slots.items ≡ length self.old.placed.trail.slots.items) }
         ensures turn { IfOk result (TurnIs clauses.now conflicts (left_of conflicts self.old) self.new) }
     {
         if !self.decide(clauses)? {
@@ -77,11 +81,11 @@ impl Solver {
         conflict: Option<u32>,
     ) -> Result<Turn, AllocError>
         requires state { Holds clauses.now self.old }
-        requires answers { Answers (known_before clauses.now self.old.entries) self.old.trail.steps.items conflict }
-        requires below { ClausesAreBelow (length self.old.trail.slots.items) clauses.now }
-        requires few { length self.old.trail.slots.items < 2 ^ 32 }
+        requires answers { Answers (known_before clauses.now self.old.entries) self.old.placed.trail.steps.items self.old.watches conflict }
+        requires below { ClausesAreBelow (length self.old.placed.trail.slots.items) clauses.now }
+        requires few { length self.old.placed.trail.slots.items < 2 ^ 32 }
         requires within { length self.old.entries ≤ conflicts }
-        ensures len { length self.new.trail.slots.items ≡ length self.old.trail.slots.items }
+        ensures len { OnOk result (length self.new.placed.trail.slots.items ≡ length self.old.placed.trail.slots.items) }
         ensures turn { IfOk result (TurnIs clauses.now conflicts (left_of conflicts self.old) self.new) }
     {
         match conflict {
@@ -105,11 +109,11 @@ impl Solver {
         mut conflict: Option<u32>,
     ) -> Result<Ending, AllocError>
         requires state { Holds clauses.now self.old }
-        requires answers { Answers (known_before clauses.now self.old.entries) self.old.trail.steps.items conflict }
-        requires below { ClausesAreBelow (length self.old.trail.slots.items) clauses.now }
-        requires few { length self.old.trail.slots.items < 2 ^ 32 }
+        requires answers { Answers (known_before clauses.now self.old.entries) self.old.placed.trail.steps.items self.old.watches conflict }
+        requires below { ClausesAreBelow (length self.old.placed.trail.slots.items) clauses.now }
+        requires few { length self.old.placed.trail.slots.items < 2 ^ 32 }
         requires within { length self.old.entries ≤ conflicts }
-        ensures len { length self.new.trail.slots.items ≡ length self.old.trail.slots.items }
+        ensures len { OnOk result (length self.new.placed.trail.slots.items ≡ length self.old.placed.trail.slots.items) }
         ensures ending { IfOk result (EndingIs clauses.now conflicts self.new) }
     {
         loop {

@@ -2,12 +2,10 @@
 ghost use Rattle.std.specs.Prelude.{◌≡◌, ℕ, ◌<◌, ◌^◌, IfOk};
 ghost use Rattle.sat_check.specs.Clauses.{ClausesAreBelow};
 ghost use Rattle.sat_search.specs.Searches.{IfAssignment, IfRefuted, IfSpent, IsSolution, IsRefutationWithin, IsSpent, IsRefutedByPropagation};
-ghost use Rattle.sat_search.specs.Trails.{values_of};
 
-use crate::found::{Found, Values};
+use crate::found::{Found, values_by};
 use crate::running::Ending;
 use crate::solver::Solver;
-use crate::trail::Slot;
 use sat_check::{Clause, Log};
 use std::alloc::{AllocError, Global};
 
@@ -39,7 +37,7 @@ pub fn search(
     let (mut solver, conflict) = Solver::start(alloc, variables, clauses)?;
     match solver.run(alloc, clauses, conflicts, conflict)? {
         Ending::Satisfied => {
-            let values = values(alloc, solver.trail.slots.as_slice())?;
+            let values = values_by(alloc, solver.placed.trail.slots.as_slice())?;
             Ok(Found::Assignment(values))
         }
         Ending::Refuted => Ok(Found::Refuted(log_of(solver))),
@@ -53,15 +51,4 @@ fn log_of(solver: Solver) -> Log
     Log {
         entries: solver.entries,
     }
-}
-
-// The slots tell which literal is false, and so the value is the other.
-fn values(alloc: Global, slots: &[Slot]) -> Result<Values, AllocError>
-    ensures { IfOk result (λ values. values ≡ values_of slots.now) }
-{
-    let mut values = Vec::new(alloc);
-    for slot in slots {
-        values.push(!slot.positive)?;
-    }
-    Ok(Values::from_vec(values))
 }

@@ -1,30 +1,50 @@
 //! The state of a search, and its moves: a decision, and what follows a conflict.
-ghost use Rattle.std.specs.Prelude.{◌≡◌, ℕ, ◌+◌, ◌-◌, ◌<◌, ◌≤◌, ◌^◌, ◌≢◌, [], length, IfOk, OnOk, true, false, IfSome, IfNone, slice_get, Some};
+ghost use Rattle.std.specs.Prelude.{◌≡◌, ◌+◌, ◌-◌, ◌<◌, ◌≤◌, ◌^◌, ◌≢◌, ◌⊎◌, ℕ, [], length, take, IfOk, OnOk, true, false, IfSome, IfNone, slice_get, Some, None, List};
 ghost use Rattle.std.specs.List.{All};
 ghost use Rattle.sat_check.specs.Clauses.{ClausesAreBelow};
-ghost use Rattle.sat_check.specs.Logs.{known_before, EntriesAreBelow, IsRefutation};
-ghost use Rattle.sat_search.specs.Trails.{AllStuck, Keeps, falses_of};
-ghost use Rattle.sat_search.specs.Propagation.{IsConflict, Propagates};
-ghost use Rattle.sat_search.specs.Analysis.{Learns};
-ghost use Rattle.sat_search.specs.Occurrences.{IsComplete};
+ghost use Rattle.sat_check.specs.Logs.{known_before};
+ghost use Rattle.sat_search.specs.Trails.{falses_of};
+ghost use Rattle.sat_search.specs.Propagation.{IsConflict};
+ghost use Rattle.sat_search.specs.Watches.{IsTrail, AllGuarded};
+ghost use Rattle.sat_search.specs.Learning.{Learns};
 ghost use Rattle.sat_search.specs.States.{IsState, IsStart, IsAhead, Answers};
+ghost use Rattle.sat_search.specs.Turns.{Holds, LearnedIs, IsKept};
+ghost use Rattle.sat_search.specs.declared.trail.Slot.{Slot as OneSlot};
+ghost use Rattle.sat_search.specs.declared.trail.Step.{Step as OneStep};
+ghost use Rattle.sat_check.specs.declared.clause.Clause.{Clause as OneClause};
 
-use crate::analysis::{Learned, analyze};
-use crate::occurrences::Occurrences;
-use crate::propagation::{propagate, visit_clauses};
-use crate::trail::{Trail, open_variable};
+use crate::analysis::{Analysis, Learned};
+use crate::gathering::Levels;
+use crate::order::Order;
+use crate::placed::PlacedTrail;
+use crate::restarts::Restarts;
+use crate::trail::open_variable;
+use crate::watches::{Pair, Watches};
 use sat_check::{Clause, Entries, Entry, Lit};
 use std::alloc::{AllocError, Global};
 
-/// The trail with the places at which its levels begin, each with a decision; in which clauses
-/// the literals stand; and the entries learned so far.
+/// The trail with the places at which its levels begin, each with a decision; which clauses watch
+/// which literals; the entries learned so far; and what chooses the decisions.
 #[derive(Drop)]
 pub(crate) struct Solver {
-    pub(crate) trail: Trail,
+    pub(crate) placed: PlacedTrail,
     pub(crate) levels: Vec<usize>,
-    pub(crate) occurrences: Occurrences,
+    pub(crate) watches: Watches,
     pub(crate) entries: Entries,
-    pub(crate) cursor: usize,
+    pub(crate) analysis: Analysis,
+    pub(crate) order: Order,
+    pub(crate) restarts: Restarts,
+}
+
+/// What learning from a conflict comes to.
+#[derive(Clone, Copy)]
+pub(crate) enum Learning {
+    /// The entry is empty, and so the log a refutation.
+    Refuted,
+    /// The entry's asserting literal was made true, and is to be propagated.
+    Asserted,
+    /// All decisions were taken back.
+    Restarted,
 }
 
 impl Solver {
@@ -36,104 +56,195 @@ impl Solver {
     ) -> Result<(Solver, Option<u32>), AllocError>
         requires below { ClausesAreBelow variables clauses.now }
         requires few { length clauses.now < 2 ^ 32 }
-        ensures state { IfOk result (λ it. IsState variables clauses.now it.0.trail.slots.items it.0.trail.steps.items it.0.levels.items it.0.occurrences.positive.items it.0.occurrences.negative.items it.0.entries) }
+        ensures len { IfOk result (λ it. length it.0.placed.trail.slots.items ≡ variables) }
+        ensures state { IfOk result (λ it. Holds clauses.now it.0) }
         ensures none { IfOk result (λ it. it.0.entries ≡ []) }
-        ensures answers { IfOk result (λ it. Answers (known_before clauses.now it.0.entries) it.0.trail.steps.items it.1) }
+        ensures answers { IfOk result (λ it. Answers (known_before clauses.now it.0.entries) it.0.placed.trail.steps.items it.0.watches it.1) }
     {
-        let mut trail = Trail::new(alloc, variables)?;
-        let occurrences = all_occurrences(alloc, variables, clauses)?;
-        let conflict = first_conflict(&mut trail, clauses, &occurrences)?;
+        let mut placed = PlacedTrail::new(alloc, variables)?;
+        let mut watches = Watches::new(alloc, variables)?;
+        let conflict = watches.first_conflict(&mut placed, clauses)?;
         let solver = Solver {
-            trail,
+            placed,
             levels: Vec::new(alloc),
-            occurrences,
+            watches,
             entries: Entries::new(alloc),
-            cursor: 0,
+            analysis: Analysis::new(alloc, variables)?,
+            order: Order::new(alloc, variables)?,
+            restarts: Restarts::new(),
         };
         Ok((solver, conflict))
     }
 
     /// Propagates the last step.
     pub(crate) fn propagate(&mut self, clauses: &[Clause]) -> Result<Option<u32>, AllocError>
-        requires state { IsState (length self.old.trail.slots.items) clauses.now self.old.trail.slots.items self.old.trail.steps.items self.old.levels.items self.old.occurrences.positive.items self.old.occurrences.negative.items self.old.entries }
-        requires ahead { IsAhead (known_before clauses.now self.old.entries) self.old.trail.steps.items }
-        requires below { ClausesAreBelow (length self.old.trail.slots.items) clauses.now }
-        ensures len { length self.new.trail.slots.items ≡ length self.old.trail.slots.items }
-        ensures entries { self.new.entries ≡ self.old.entries }
-        ensures longer { OnOk result (length self.old.trail.steps.items ≤ length self.new.trail.steps.items) }
-        ensures state { OnOk result (IsState (length self.new.trail.slots.items) clauses.now self.new.trail.slots.items self.new.trail.steps.items self.new.levels.items self.new.occurrences.positive.items self.new.occurrences.negative.items self.new.entries) }
-        ensures answers { IfOk result (Answers (known_before clauses.now self.new.entries) self.new.trail.steps.items) }
+        requires state { Holds clauses.now self.old }
+        requires ahead { IsAhead (known_before clauses.now self.old.entries) self.old.placed.trail.steps.items self.old.watches }
+        requires below { ClausesAreBelow (length self.old.placed.trail.slots.items) clauses.now }
+        ensures len { OnOk result (length self.new.placed.trail.slots.items ≡ length self.old.placed.trail.slots.items) }
+        ensures entries { OnOk result (self.new.entries ≡ self.old.entries) }
+        ensures longer { OnOk result (length self.old.placed.trail.steps.items ≤ length self.new.placed.trail.steps.items) }
+        ensures state { OnOk result (Holds clauses.now self.new) }
+        ensures answers { IfOk result (Answers (known_before clauses.now self.new.entries) self.new.placed.trail.steps.items self.new.watches) }
     {
-        let head = self.trail.steps.len() - 1;
-        let conflict = propagate(
-            &mut self.trail,
-            clauses,
-            self.entries.as_slice(),
-            &self.occurrences,
-            head,
-        )?;
+        let head = self.placed.trail.steps.len() - 1;
+        let conflict = self
+            .watches
+            .propagate(&mut self.placed, clauses, self.entries.as_slice(), head)?;
         Ok(conflict)
+    }
+
+    // The variable without a value that is to be decided next.
+    fn next_variable(&mut self) -> Option<u32>
+        requires few { length self.old.placed.trail.slots.items < 2 ^ 32 }
+        ensures placed { self.new.placed ≡ self.old.placed }
+        ensures levels { self.new.levels ≡ self.old.levels }
+        ensures watches { self.new.watches ≡ self.old.watches }
+        ensures entries { self.new.entries ≡ self.old.entries }
+        ensures analysis { self.new.analysis ≡ self.old.analysis }
+        ensures found { IfSome result (λ v. (slot : OneSlot) × (slice_get self.old.placed.trail.slots.items v ≡ Some slot) × (slot.assigned ≡ false)) }
+        ensures none { IfNone result (All (λ slot. slot.assigned ≡ true) self.old.placed.trail.slots.items) }
+    {
+        while let Some(variable) = self.order.pop() {
+            if let Some(slot) = self.placed.trail.slots.get(variable as usize) {
+                if !slot.assigned {
+                    return Some(variable);
+                }
+            }
+        }
+        let variable = open_variable(self.placed.trail.slots.as_slice(), 0)?;
+        Some(variable as u32)
     }
 
     /// Gives a value to a variable that has none, as it last had it. `false` says that all have
     /// one.
     pub(crate) fn decide(&mut self, clauses: &[Clause]) -> Result<bool, AllocError>
-        requires state { IsState (length self.old.trail.slots.items) clauses.now self.old.trail.slots.items self.old.trail.steps.items self.old.levels.items self.old.occurrences.positive.items self.old.occurrences.negative.items self.old.entries }
-        requires stuck { AllStuck (known_before clauses.now self.old.entries) (falses_of self.old.trail.steps.items) }
-        requires few { length self.old.trail.slots.items < 2 ^ 32 }
-        ensures len { length self.new.trail.slots.items ≡ length self.old.trail.slots.items }
-        ensures entries { self.new.entries ≡ self.old.entries }
-        ensures state { OnOk result (IsState (length self.new.trail.slots.items) clauses.now self.new.trail.slots.items self.new.trail.steps.items self.new.levels.items self.new.occurrences.positive.items self.new.occurrences.negative.items self.new.entries) }
-        ensures decided { IfOk result (λ decided. decided ≡ true → IsAhead (known_before clauses.now self.new.entries) self.new.trail.steps.items × (length self.new.trail.steps.items ≡ length self.old.trail.steps.items + 1)) }
-        ensures whole { IfOk result (λ decided. decided ≡ false → All (λ slot. slot.assigned ≡ true) self.new.trail.slots.items × AllStuck (known_before clauses.now self.new.entries) (falses_of self.new.trail.steps.items)) }
+        requires state { Holds clauses.now self.old }
+        requires guarded { AllGuarded (known_before clauses.now self.old.entries) self.old.watches.pairs.items (falses_of self.old.placed.trail.steps.items) (falses_of self.old.placed.trail.steps.items) }
+        requires few { length self.old.placed.trail.slots.items < 2 ^ 32 }
+        ensures len { OnOk result (length self.new.placed.trail.slots.items ≡ length self.old.placed.trail.slots.items) }
+        ensures entries { OnOk result (self.new.entries ≡ self.old.entries) }
+        ensures state { OnOk result (Holds clauses.now self.new) }
+        ensures decided { IfOk result (λ decided. decided ≡ true → IsAhead (known_before clauses.now self.new.entries) self.new.placed.trail.steps.items self.new.watches × (length self.new.placed.trail.steps.items ≡ length self.old.placed.trail.steps.items + 1)) }
+        ensures whole { IfOk result (λ decided. decided ≡ false → All (λ slot. slot.assigned ≡ true) self.new.placed.trail.slots.items × (self.new.placed ≡ self.old.placed) × (self.new.watches ≡ self.old.watches)) }
     {
-        let Some(variable) = open_variable(self.trail.slots.as_slice(), self.cursor) else {
+        let Some(variable) = self.next_variable() else {
             return Ok(false);
         };
-        self.cursor = variable;
         let falsified = Lit {
-            variable: variable as u32,
-            positive: self.trail.slots[variable].positive,
+            variable,
+            positive: self.placed.trail.slots[variable as usize].positive,
         };
-        let place = self.trail.steps.len();
-        self.trail.assign(falsified, None)?;
+        let place = self.placed.trail.steps.len();
+        self.placed.assign(falsified, None)?;
         self.levels.push(place)?;
         Ok(true)
     }
 
-    /// Learns an entry from a clause that is false, and jumps back to where it follows from the
-    /// values. `true` says that the entry is empty, and so the log a refutation.
+    /// Learns an entry from a clause that is false.
     pub(crate) fn learn(
         &mut self,
         alloc: Global,
         clauses: &[Clause],
         conflict: u32,
-    ) -> Result<bool, AllocError>
-        requires state { IsState (length self.old.trail.slots.items) clauses.now self.old.trail.slots.items self.old.trail.steps.items self.old.levels.items self.old.occurrences.positive.items self.old.occurrences.negative.items self.old.entries }
-        requires conflict { IsConflict (known_before clauses.now self.old.entries) (falses_of self.old.trail.steps.items) conflict }
-        requires below { ClausesAreBelow (length self.old.trail.slots.items) clauses.now }
-        ensures len { length self.new.trail.slots.items ≡ length self.old.trail.slots.items }
-        ensures more { OnOk result (length self.new.entries ≡ length self.old.entries + 1) }
-        ensures refuted { IfOk result (λ refuted. refuted ≡ true → IsRefutation clauses.now self.new.entries × EntriesAreBelow (length self.new.trail.slots.items) self.new.entries) }
-        ensures learned { IfOk result (λ refuted. refuted ≡ false → (IsState (length self.new.trail.slots.items) clauses.now self.new.trail.slots.items self.new.trail.steps.items self.new.levels.items self.new.occurrences.positive.items self.new.occurrences.negative.items self.new.entries) × IsAhead (known_before clauses.now self.new.entries) self.new.trail.steps.items) }
+    ) -> Result<Learning, AllocError>
+        requires state { Holds clauses.now self.old }
+        requires conflict { IsConflict (known_before clauses.now self.old.entries) (falses_of self.old.placed.trail.steps.items) conflict }
+        requires below { ClausesAreBelow (length self.old.placed.trail.slots.items) clauses.now }
+        ensures { IfOk result (LearnedIs clauses.now self.old self.new) }
     {
-        let start = start_of(self.levels.as_slice());
-        let first = first_of(self.levels.as_slice());
-        let Learned { entry, keep } = analyze(
+        let levels = levels_of(self.levels.as_slice(), self.placed.trail.steps.len());
+        let learned = self.analysis.analyze(
             alloc,
-            &self.trail,
+            &self.placed,
             clauses,
             self.entries.as_slice(),
             conflict,
-            start,
-            first,
+            levels,
         )?;
-        if entry.clause.lits.is_empty() {
+        let Learned {
+            entry,
+            asserting,
+            keep,
+        } = learned;
+        self.reorder();
+        let Some(asserting) = asserting else {
             self.entries.push(entry)?;
-            return Ok(true);
+            return Ok(Learning::Refuted);
+        };
+        if self.restarts.is_due() && levels.base < keep {
+            self.restart(clauses, entry, asserting, levels.start, levels.base, keep)?;
+            return Ok(Learning::Restarted);
         }
-        self.jump(clauses, entry, start, keep)?;
-        Ok(false)
+        self.jump(clauses, entry, asserting, levels.start, keep)?;
+        Ok(Learning::Asserted)
+    }
+
+    // The variables that took part in the conflict come earlier from now on.
+    fn reorder(&mut self)
+        ensures placed { self.new.placed ≡ self.old.placed }
+        ensures levels { self.new.levels ≡ self.old.levels }
+        ensures watches { self.new.watches ≡ self.old.watches }
+        ensures entries { self.new.entries ≡ self.old.entries }
+        ensures analysis { self.new.analysis ≡ self.old.analysis }
+    {
+        for variable in &self.analysis.gathering.seen {
+            self.order.bump(*variable);
+        }
+        self.order.decay();
+        self.restarts.count();
+    }
+
+    // Takes back all steps from a place on, and lets their variables be decided again.
+    fn undo(&mut self, place: usize) -> Result<(), AllocError>
+        requires trail { (known : List OneClause) × IsTrail known self.old.placed }
+        requires within { place ≤ length self.old.placed.trail.steps.items }
+        ensures levels { OnOk result (self.new.levels ≡ self.old.levels) }
+        ensures watches { OnOk result (self.new.watches ≡ self.old.watches) }
+        ensures entries { OnOk result (self.new.entries ≡ self.old.entries) }
+        ensures analysis { OnOk result (self.new.analysis ≡ self.old.analysis) }
+        ensures len { OnOk result (length self.new.placed.trail.slots.items ≡ length self.old.placed.trail.slots.items) }
+        ensures steps { OnOk result (self.new.placed.trail.steps.items ≡ take place self.old.placed.trail.steps.items) }
+        ensures trail { OnOk result ((known : List OneClause) → IsTrail known self.old.placed → IsTrail known self.new.placed) }
+    {
+        for step in &self.placed.trail.steps.as_slice()[place..] {
+            self.order.insert(step.falsified.variable)?;
+        }
+        self.placed.cut(place);
+        Ok(())
+    }
+
+    // Takes back the levels from `level` on, which begins at `place`, and keeps the entry, which
+    // watches its asserting literal and the one that became false last before.
+    #[allow(clippy::too_many_arguments)]
+    fn keep_entry(
+        &mut self,
+        clauses: &[Clause],
+        entry: Entry,
+        asserting: Lit,
+        start: usize,
+        keep: usize,
+        level: usize,
+        place: usize,
+    ) -> Result<u32, AllocError>
+        requires state { Holds clauses.now self.old }
+        requires start { slice_get self.old.levels.items (length self.old.levels.items - 1) ≡ Some start }
+        requires learns { Learns (known_before clauses.now self.old.entries) self.old.placed.trail.steps.items start entry.clause.lits entry.hints (Some asserting) keep }
+        requires level { slice_get self.old.levels.items level ≡ Some place }
+        requires earlier { (i a : ℕ) → i < level → slice_get self.old.levels.items i ≡ Some a → a < keep }
+        ensures { IfOk result (IsKept clauses.now self.old self.new asserting keep place) }
+    {
+        let second = second_of(&self.placed, asserting, keep);
+        self.undo(place)?;
+        self.levels.truncate(level);
+        let index = next_index(clauses.len(), self.entries.len())?;
+        let pair = Pair {
+            first: asserting,
+            second,
+        };
+        self.watches.watch(index, pair)?;
+        self.entries.push(entry)?;
+        Ok(index)
     }
 
     // Jumps back to the first level that begins at `keep` or later, where the entry has one
@@ -142,86 +253,92 @@ impl Solver {
         &mut self,
         clauses: &[Clause],
         entry: Entry,
+        asserting: Lit,
         start: usize,
         keep: usize,
     ) -> Result<(), AllocError>
-        requires state { IsState (length self.old.trail.slots.items) clauses.now self.old.trail.slots.items self.old.trail.steps.items self.old.levels.items self.old.occurrences.positive.items self.old.occurrences.negative.items self.old.entries }
-        requires start { IsStart self.old.levels.items start }
-        requires learns { Learns (known_before clauses.now self.old.entries) self.old.trail.steps.items start entry.clause.lits entry.hints keep }
-        requires some { entry.clause.lits ≢ [] }
-        ensures len { length self.new.trail.slots.items ≡ length self.old.trail.slots.items }
-        ensures more { OnOk result (length self.new.entries ≡ length self.old.entries + 1) }
-        ensures state { OnOk result (IsState (length self.new.trail.slots.items) clauses.now self.new.trail.slots.items self.new.trail.steps.items self.new.levels.items self.new.occurrences.positive.items self.new.occurrences.negative.items self.new.entries) }
-        ensures ahead { OnOk result (IsAhead (known_before clauses.now self.new.entries) self.new.trail.steps.items) }
+        requires state { Holds clauses.now self.old }
+        requires start { slice_get self.old.levels.items (length self.old.levels.items - 1) ≡ Some start }
+        requires learns { Learns (known_before clauses.now self.old.entries) self.old.placed.trail.steps.items start entry.clause.lits entry.hints (Some asserting) keep }
+        ensures { OnOk result (LearnedIs clauses.now self.old self.new Learning.Asserted) }
     {
-        let decision = self.trail.steps[start];
         let Some((level, place)) = level_from(self.levels.as_slice(), keep) else {
             unreachable!()
         };
-        self.trail.cut(place);
-        self.levels.truncate(level);
-        self.cursor = 0;
-        let index = next_index(clauses.len(), self.entries.len())?;
-        self.occurrences.add(index, entry.clause.lits.as_slice())?;
-        self.entries.push(entry)?;
-        self.trail
-            .assign(decision.falsified.opposite(), Some(index))?;
+        let index = self.keep_entry(clauses, entry, asserting, start, keep, level, place)?;
+        self.placed.assign(asserting.opposite(), Some(index))?;
+        Ok(())
+    }
+
+    // Takes back all decisions, where the entry has two literals left.
+    fn restart(
+        &mut self,
+        clauses: &[Clause],
+        entry: Entry,
+        asserting: Lit,
+        start: usize,
+        base: usize,
+        keep: usize,
+    ) -> Result<(), AllocError>
+        requires state { Holds clauses.now self.old }
+        requires start { slice_get self.old.levels.items (length self.old.levels.items - 1) ≡ Some start }
+        requires base { slice_get self.old.levels.items 0 ≡ Some base }
+        requires learns { Learns (known_before clauses.now self.old.entries) self.old.placed.trail.steps.items start entry.clause.lits entry.hints (Some asserting) keep }
+        requires two { base < keep }
+        ensures { OnOk result (LearnedIs clauses.now self.old self.new Learning.Restarted) }
+    {
+        let _index = self.keep_entry(clauses, entry, asserting, start, keep, 0, base)?;
+        self.restarts.begin();
         Ok(())
     }
 }
 
-// Looks at each clause, and propagates what follows.
-fn first_conflict(
-    trail: &mut Trail,
-    clauses: &[Clause],
-    occurrences: &Occurrences,
-) -> Result<Option<u32>, AllocError>
-    requires keeps { Keeps (known_before clauses.now []) trail.old.slots.items trail.old.steps.items }
-    requires complete { IsComplete (known_before clauses.now []) occurrences.now.positive.items occurrences.now.negative.items }
-    requires positive { length occurrences.now.positive.items ≡ length trail.old.slots.items }
-    requires negative { length occurrences.now.negative.items ≡ length trail.old.slots.items }
-    requires below { ClausesAreBelow (length trail.old.slots.items) clauses.now }
-    requires few { length clauses.now < 2 ^ 32 }
-    ensures len { length trail.new.slots.items ≡ length trail.old.slots.items }
-    ensures propagates { IfOk result (Propagates (known_before clauses.now []) trail.old.steps.items trail.new.slots.items trail.new.steps.items) }
+// The literal that became false last before `keep`, or the asserting one where nothing did.
+fn second_of(placed: &PlacedTrail, asserting: Lit, keep: usize) -> Lit
+    requires { keep ≤ length placed.now.trail.steps.items }
+    ensures some { 0 < keep → (step : OneStep) × (slice_get placed.now.trail.steps.items (keep - 1) ≡ Some step) × (step.falsified ≡ result) }
+    ensures none { keep ≡ 0 → result ≡ asserting }
 {
-    let begun = visit_clauses(trail, clauses)?;
-    if begun.is_some() {
-        return Ok(begun);
+    if keep == 0 {
+        return asserting;
     }
-    let conflict = propagate(trail, clauses, &[], occurrences, 0)?;
-    Ok(conflict)
+    placed.trail.steps[keep - 1].falsified
 }
 
-// The first level that begins at `keep` or later, and where it does.
+// The first level that begins at `keep` or later, and where it does. It is sought from the last
+// level back.
 fn level_from(levels: &[usize], keep: usize) -> Option<(usize, usize)>
     ensures found { IfSome result (λ it. (slice_get levels.now it.0 ≡ Some it.1) × (keep ≤ it.1)) }
-    ensures first { IfSome result (λ it. (i place : ℕ) → i < it.0 → slice_get levels.now i ≡ Some place → place < keep) }
-    ensures none { IfNone result ((i place : ℕ) → slice_get levels.now i ≡ Some place → place < keep) }
+    ensures first { IfSome result (λ it. (level place : ℕ) → level + 1 ≡ it.0 → slice_get levels.now level ≡ Some place → place < keep) }
+    ensures none { IfNone result ((place : ℕ) → slice_get levels.now (length levels.now - 1) ≡ Some place → place < keep) }
 {
-    for (level, place) in levels.iter().enumerate() {
-        if *place >= keep {
-            return Some((level, *place));
-        }
+    let mut found = None;
+    let mut level = levels.len();
+    while level > 0 && levels[level - 1] >= keep {
+        level -= 1;
+        found = Some((level, levels[level]));
     }
-    None
+    found
 }
 
-// Where the last level begins.
-fn start_of(levels: &[usize]) -> usize
-    ensures { IsStart levels.now result }
+// Where the last level begins, and the first. Where there is none, all came before any decision.
+fn levels_of(levels: &[usize], steps: usize) -> Levels
+    ensures start { IsStart levels.now result.start }
+    ensures base { ((levels.now ≡ []) × (result.base ≡ steps)) ⊎ (slice_get levels.now 0 ≡ Some result.base) }
 {
-    match levels.last() {
-        Some(place) => *place,
-        None => 0,
-    }
-}
-
-// Where the first level begins. What is false before it needs no decision.
-fn first_of(levels: &[usize]) -> usize {
-    match levels.first() {
-        Some(place) => *place,
-        None => 0,
+    match levels {
+        [] => Levels {
+            start: 0,
+            base: steps,
+        },
+        [base, .., start] => Levels {
+            start: *start,
+            base: *base,
+        },
+        [only] => Levels {
+            start: *only,
+            base: *only,
+        },
     }
 }
 
@@ -236,23 +353,4 @@ fn next_index(clauses: usize, entries: usize) -> Result<u32, AllocError>
         Ok(index) => Ok(index),
         Err(_) => Err(AllocError),
     }
-}
-
-// The clauses in which each literal stands.
-fn all_occurrences(
-    alloc: Global,
-    variables: u32,
-    clauses: &[Clause],
-) -> Result<Occurrences, AllocError>
-    requires below { ClausesAreBelow variables clauses.now }
-    requires few { length clauses.now < 2 ^ 32 }
-    ensures positive { IfOk result (λ all. length all.positive.items ≡ variables) }
-    ensures negative { IfOk result (λ all. length all.negative.items ≡ variables) }
-    ensures complete { IfOk result (λ all. IsComplete (known_before clauses.now []) all.positive.items all.negative.items) }
-{
-    let mut occurrences = Occurrences::new(alloc, variables)?;
-    for (index, clause) in clauses.iter().enumerate() {
-        occurrences.add(index as u32, clause.lits.as_slice())?;
-    }
-    Ok(occurrences)
 }

@@ -15,18 +15,18 @@ returns-in_ok-values-in-Satisfied-clause-assignment c =
     let clauses = c.args.clauses.now in
     let end = c.run.new.self in
     let whole : IsWhole clauses end = subst (λ (e : Ending). EndingIs clauses c.args.conflicts end e) c.in-Satisfied.is c.in_ok-run.ensures.ending in
-    let len : length end.trail.slots.items ≡ c.args.variables = c.in_ok-run.ensures.len ∙ c.in_ok-solver.ensures.state.all in
-    let values : c.in_ok-values-in-Satisfied.values ≡ values_of end.trail.slots.items =
+    let len : length end.placed.trail.slots.items ≡ c.args.variables = c.in_ok-run.ensures.len ∙ c.in_ok-solver.ensures.len in
+    let values : c.in_ok-values-in-Satisfied.values ≡ values_of end.placed.trail.slots.items =
     c.in_ok-values-in-Satisfied.ensures ∙ ap (λ (s : List Slot). values_of s) c.as_slice.ensures.value in
     subst (λ (vs : List Bool). IsSolution c.args.variables clauses vs) (sym values)
-    (solution c.args.variables clauses end.entries end.trail.slots.items end.trail.steps.items len c.requires whole.keeps whole.assigned whole.stuck)
+    (solution c.args.variables clauses end.entries end.placed.trail.slots.items end.placed.trail.steps.items len c.requires whole.keeps whole.assigned whole.stuck)
 
 pub returns-in-Spent-clause-spent : goal.returns-in-Spent-clause-spent
 returns-in-Spent-clause-spent c =
     let clauses = c.args.clauses.now in
     let end = c.run.new.self in
     let at_end : IsAtEnd clauses c.args.conflicts end = subst (λ (e : Ending). EndingIs clauses c.args.conflicts end e) c.in-Spent.is c.in_ok-run.ensures.ending in
-    let len : length end.trail.slots.items ≡ c.args.variables = c.in_ok-run.ensures.len ∙ c.in_ok-solver.ensures.state.all in
+    let len : length end.placed.trail.slots.items ≡ c.args.variables = c.in_ok-run.ensures.len ∙ c.in_ok-solver.ensures.len in
     let spent : IsSpent c.args.variables clauses c.args.conflicts end.entries =
     record {
       all = at_end.all;
@@ -41,6 +41,6 @@ returns-in-Spent-clause-never_spent c =
     let clauses = c.args.clauses.now in
     let end = c.run.new.self in
     let at_end : IsAtEnd clauses c.args.conflicts end = subst (λ (e : Ending). EndingIs clauses c.args.conflicts end e) c.in-Spent.is c.in_ok-run.ensures.ending in
-    let len : length end.trail.slots.items ≡ c.args.variables = c.in_ok-run.ensures.len ∙ c.in_ok-solver.ensures.state.all in
+    let len : length end.placed.trail.slots.items ≡ c.args.variables = c.in_ok-run.ensures.len ∙ c.in_ok-solver.ensures.len in
     let few = new_entries_few c.args.variables clauses end.entries (subst (λ (n : ℕ). EntriesAreBelow n end.entries) len at_end.entries_are.below) at_end.entries_are.new in
     omega (arith, few, at_end.all)

@@ -1,36 +1,49 @@
-use Rattle.std.proofs.Common.{◌≡◌, ◌∙◌, ◌<◌, List, [], ◌∷◌, Some, None, length, arith, sym, ap, subst}
+use Rattle.std.proofs.Common.{◌≡◌, ◌∙◌, ℕ, ◌<◌, ◌+◌, List, [], ◌∷◌, ◌++◌, Some, None, length, arith, refl, sym, ap, subst}
 use Rattle.std.specs.List.{slice_get}
-use Rattle.std.proofs.lemmas.Option.{slice_get-get_or}
 use Rattle.std.proofs.lemmas.List.{length-append}
 use Rattle.sat_check.specs.Logs.{known_before}
-use Rattle.sat_search.specs.declared.trail.Slot.{Slot}
 use Rattle.sat_search.specs.declared.trail.Step.{Step}
-use Rattle.sat_search.specs.States.{IsAhead}
-use Rattle.sat_search.proofs.States.{State-decide, IsAhead-decide}
+use Rattle.sat_search.specs.declared.placed.PlacedTrail.{PlacedTrail}
+use Rattle.sat_search.specs.Trails.{falses_of}
+use Rattle.sat_search.specs.Watches.{AllGuarded}
+use Rattle.sat_search.specs.States.{IsState, IsAhead}
+use Rattle.sat_search.specs.Marks.{IsReady}
+use Rattle.sat_search.specs.Turns.{Holds}
+use Rattle.sat_search.proofs.Keeping.{Holds-same, State-decide}
 use Rattle.sat_search.proofs.solver.Solver.decide.Goals as goal
+use Rattle.sat_search.proofs.solver.Solver.decide.Goals.{In_ok-push}
+
+decided :
+    (c : In_ok-push)
+    → IsState c.args.clauses.now c.assign.new.self c.push.new.self.items c.next_variable.new.self.watches c.next_variable.new.self.entries × IsAhead (known_before c.args.clauses.now c.next_variable.new.self.entries) c.assign.new.self.trail.steps.items c.next_variable.new.self.watches
+    × (length c.assign.new.self.trail.slots.items ≡ length c.next_variable.new.self.placed.trail.slots.items)
+decided c =
+    let old = c.args.self.now in
+    let own = c.next_variable.new.self in
+    let it = c.in-Some.ensures in
+    let variable = c.in-Some.variable in
+    let (slot, at, is_open) = it.found in
+    let holds : Holds c.args.clauses.now own = Holds-same c.args.clauses.now old own it.placed it.levels it.watches it.entries it.analysis c.requires.state in
+    let guarded : AllGuarded (known_before c.args.clauses.now own.entries) own.watches.pairs.items (falses_of own.placed.trail.steps.items) (falses_of own.placed.trail.steps.items) =
+    rw (it.placed, it.watches, it.entries) c.requires.guarded in
+    let made = c.in_ok-assign.ensures in
+    let step : Step = record { falsified = record { variable = variable; positive = c.index.result.now.positive }; reason = None } in
+    State-decide c.args.clauses.now own.placed c.assign.new.self own.levels.items c.push.new.self.items own.watches own.entries step slot c.len-place.result holds.state guarded
+    (subst (λ (p : PlacedTrail). slice_get p.trail.slots.items variable ≡ Some slot) (sym it.placed) at) is_open refl (omega (arith, c.len-place.ensures, own.placed.trail.steps.ok.0)) made.slots made.steps made.places c.in_ok-push.ensures.items
 
 pub returns-clause-state : goal.returns-clause-state
 returns-clause-state c =
-    let own = c.args.self.now in
-    let slots = own.trail.slots.items in
-    let steps = own.trail.steps.items in
-    let variable = c.in-Some.variable in
-    let slot = c.index.result.now in
-    let (inside, is_open) = c.in-Some.ensures.found in
-    let within : variable < length slots = rw c.as_slice.ensures.value at inside in
-    let here : slice_get slots variable ≡ Some slot = slice_get-get_or slots variable slot within ∙ ap (λ (s : Slot). Some s) (sym c.index.ensures) in
-    let open' = is_open slot (subst (λ (s : List Slot). slice_get s variable ≡ Some slot) (sym c.as_slice.ensures.value) here) in
-    State-decide c.args.clauses.now slots c.assign.new.self.slots.items steps c.assign.new.self.steps.items own.levels.items c.push.new.self.items
-    own.occurrences.positive.items own.occurrences.negative.items own.entries variable c.len-place.result slot.positive slot
-    c.requires.state c.requires.stuck here open' (omega (arith, c.len-place.ensures, own.trail.steps.ok.0)) c.in_ok-assign.ensures.slots c.in_ok-assign.ensures.steps c.in_ok-push.ensures.items
+    let it = c.in-Some.ensures in
+    let both = decided (goal.at.returns-clause-state c).In_ok-push in
+    let holds : Holds c.args.clauses.now c.next_variable.new.self =
+    Holds-same c.args.clauses.now c.args.self.now c.next_variable.new.self it.placed it.levels it.watches it.entries it.analysis c.requires.state in
+    record { state = both.0; ready = subst (λ (n : ℕ). IsReady n c.next_variable.new.self.analysis) (sym both.2) holds.ready }
 
 pub returns-clause-decided : goal.returns-clause-decided
 returns-clause-decided c _ =
-    let own = c.args.self.now in
-    let known = known_before c.args.clauses.now own.entries in
-    let steps = own.trail.steps.items in
-    let step : Step = record { falsified = record { variable = c.in-Some.variable; positive = c.index.result.now.positive }; reason = None } in
-    let is = c.in_ok-assign.ensures.steps in (
-      subst (λ (s : List Step). IsAhead known s) (sym is) (IsAhead-decide known steps step c.requires.stuck),
-      ap length is ∙ length-append steps (step ∷ []),
+    let both = decided (goal.at.returns-clause-decided c).In_ok-push in
+    let own = c.next_variable.new.self in
+    let step : Step = record { falsified = record { variable = c.in-Some.variable; positive = c.index.result.now.positive }; reason = None } in (
+      both.1,
+      ap (λ (s : List Step). length s) c.in_ok-assign.ensures.steps ∙ length-append own.placed.trail.steps.items (step ∷ []) ∙ ap (λ (p : PlacedTrail). length p.trail.steps.items + 1) c.in-Some.ensures.placed,
     )

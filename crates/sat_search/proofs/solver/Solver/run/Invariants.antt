@@ -6,9 +6,9 @@ use Rattle.sat_search.proofs.solver.Solver.run.Given as goal
 
 abbrev pub invariant-loop-ending : goal.invariant-loop-ending
 invariant-loop-ending l = record {
-  len : length l.self.trail.slots.items ≡ length l.initial.self.trail.slots.items;
+  len : length l.self.placed.trail.slots.items ≡ length l.initial.self.placed.trail.slots.items;
   state : Holds l.clauses l.self;
-  answers : Answers (known_before l.clauses l.self.entries) l.self.trail.steps.items l.conflict;
+  answers : Answers (known_before l.clauses l.self.entries) l.self.placed.trail.steps.items l.self.watches l.conflict;
   within : length l.self.entries ≤ l.conflicts;
 }
 

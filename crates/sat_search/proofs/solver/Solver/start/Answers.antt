@@ -1,29 +1,43 @@
-use Rattle.std.proofs.Common.{◌∙◌, List, [], sym, subst}
+use Rattle.std.proofs.Common.{◌≡◌, ◌∙◌, ℕ, ◌<◌, List, [], Some, length, arith, sym, ap, subst}
+use Rattle.std.specs.List.{slice_get}
+use Rattle.std.proofs.lemmas.Option.{none-some}
 use Rattle.sat_check.specs.declared.log.Entry.{Entry}
 use Rattle.sat_check.specs.Logs.{known_before}
-use Rattle.sat_search.specs.declared.trail.Step.{Step}
-use Rattle.sat_search.specs.Propagation.{Propagates}
 use Rattle.sat_search.specs.States.{Answers}
-use Rattle.sat_search.proofs.States.{State-start}
+use Rattle.sat_search.specs.Marks.{IsReady}
+use Rattle.sat_search.proofs.Levels.{LevelsAre-none}
 use Rattle.sat_search.proofs.solver.Solver.start.Goals as goal
 
-pub first_conflict-requires-clause-keeps : goal.first_conflict-requires-clause-keeps
-first_conflict-requires-clause-keeps c = c.in_ok-trail.ensures.keeps (known_before c.args.clauses.now [])
+pub first_conflict-requires-clause-trail : goal.first_conflict-requires-clause-trail
+first_conflict-requires-clause-trail c = c.in_ok-placed.ensures.trail (known_before c.args.clauses.now [])
 
 pub returns-clause-state : goal.returns-clause-state
 returns-clause-state c =
     let clauses = c.args.clauses.now in
-    let slots = c.first_conflict.new.trail.slots.items in
-    let steps = c.first_conflict.new.trail.steps.items in
-    let all = c.in_ok-occurrences.occurrences in
-    let conflict = c.in_ok-conflict.conflict in
-    let it = subst (λ (s : List Step). Propagates (known_before clauses []) s slots steps conflict) c.in_ok-trail.ensures.steps c.in_ok-conflict.ensures.propagates in
-    State-start c.args.variables clauses slots steps c.new-2.result.items all.positive.items all.negative.items c.new-3.result conflict
-    (c.in_ok-conflict.ensures.len ∙ c.in_ok-trail.ensures.len) it c.new-2.ensures.items c.new-3.ensures
-    c.in_ok-occurrences.ensures.complete c.in_ok-occurrences.ensures.positive c.in_ok-occurrences.ensures.negative
+    let it = c.in_ok-conflict.ensures in
+    let steps = c.first_conflict.new.placed.trail.steps.items in
+    let known : known_before clauses c.new-4.result ≡ known_before clauses [] = ap (λ (es : List Entry). known_before clauses es) c.new-4.ensures in
+    record {
+      state =
+          record {
+            trail = rw known it.trail;
+            levels_are = rw (known, c.new-3.ensures.items) (LevelsAre-none (known_before clauses []) steps it.extends);
+            watched = rw known it.watched;
+            guarded = λ level place at. absurd (none-some place (subst (λ (l : List ℕ). slice_get l level ≡ Some place) c.new-3.ensures.items at));
+            entries_are =
+                rw c.new-4.ensures
+                (record {
+                  below = λ k d h. absurd (omega (arith, h));
+                  follow = λ index entry h. absurd (omega (arith, h));
+                  new = λ index entry e. absurd (none-some entry e);
+                  not_propagated = λ h. absurd (omega (arith, h));
+                });
+          };
+      ready = subst (λ (n : ℕ). IsReady n c.in_ok-new.field-0) (sym (it.len ∙ c.in_ok-placed.ensures.len)) c.in_ok-new.ensures;
+    }
 
 pub returns-clause-answers : goal.returns-clause-answers
 returns-clause-answers c =
-    let it = c.in_ok-conflict.ensures.propagates in
-    subst (λ (es : List Entry). Answers (known_before c.args.clauses.now es) c.first_conflict.new.trail.steps.items c.in_ok-conflict.conflict) (sym c.new-3.ensures)
-    (record { found = it.found; stuck = it.stuck })
+    let it = c.in_ok-conflict.ensures in
+    subst (λ (es : List Entry). Answers (known_before c.args.clauses.now es) c.first_conflict.new.placed.trail.steps.items c.first_conflict.new.self c.in_ok-conflict.conflict) (sym c.new-4.ensures)
+    (record { found = it.found; guarded = it.guarded })

@@ -1,0 +1,138 @@
+//! Which clauses watch a literal.
+ghost use Rattle.std.specs.Prelude.{◌≡◌, ℕ, ◌+◌, ◌<◌, [], ◌∷◌, ◌++◌, length, List, IfOk, OnOk, slice_index_or};
+ghost use Rattle.std.specs.List.{swap_remove};
+ghost use Rattle.sat_search.specs.Watches.{watchers_of, list_at, IsWritten, IsWrittenAt, WatchesMore};
+ghost use Rattle.sat_check.specs.declared.clause.Lit.{Lit as OneLit};
+ghost use Rattle.sat_search.specs.declared.watches.Watcher.{Watcher as OneWatcher};
+
+use sat_check::Lit;
+use std::alloc::{AllocError, Global};
+
+/// A clause, by its number, and one of its literals: where that is true, the clause needs no look.
+#[derive(Clone, Copy)]
+pub(crate) struct Watcher {
+    pub(crate) index: u32,
+    pub(crate) blocker: Lit,
+}
+
+/// The two literals that a clause watches. Where they are one, it watches none.
+#[derive(Clone, Copy)]
+pub(crate) struct Pair {
+    pub(crate) first: Lit,
+    pub(crate) second: Lit,
+}
+
+/// For each variable the clauses that watch it, and those that watch its negation; and for each
+/// clause the pair that it watches.
+#[derive(Drop)]
+pub(crate) struct Watches {
+    pub(crate) positive: Vec<Vec<Watcher>>,
+    pub(crate) negative: Vec<Vec<Watcher>>,
+    pub(crate) pairs: Vec<Pair>,
+}
+
+impl Watches {
+    pub(crate) fn new(alloc: Global, variables: u32) -> Result<Watches, AllocError>
+        ensures positive { IfOk result (λ all. length all.positive.items ≡ variables) }
+        ensures negative { IfOk result (λ all. length all.negative.items ≡ variables) }
+        ensures pairs { IfOk result (λ all. all.pairs.items ≡ []) }
+        ensures none { IfOk result (λ all. (lit : OneLit) → watchers_of all lit ≡ []) }
+    {
+        Ok(Watches {
+            positive: no_lists(alloc, variables)?,
+            negative: no_lists(alloc, variables)?,
+            pairs: Vec::new(alloc),
+        })
+    }
+
+    /// The clauses that watch the literal.
+    pub(crate) fn of(&self, lit: Lit) -> &[Watcher]
+        requires positive { lit.variable < length self.now.positive.items }
+        requires negative { lit.variable < length self.now.negative.items }
+        ensures { result.now ≡ watchers_of self.now lit }
+    {
+        if lit.positive {
+            self.positive[lit.variable as usize].as_slice()
+        } else {
+            self.negative[lit.variable as usize].as_slice()
+        }
+    }
+
+    /// One clause more watches the literal.
+    pub(crate) fn push(&mut self, lit: Lit, watcher: Watcher) -> Result<(), AllocError>
+        requires positive { lit.variable < length self.old.positive.items }
+        requires negative { lit.variable < length self.old.negative.items }
+        ensures { OnOk result (IsWritten self.old self.new lit (watchers_of self.old lit ++ watcher ∷ [])) }
+    {
+        if lit.positive {
+            push_at(&mut self.positive, lit.variable, watcher)
+        } else {
+            push_at(&mut self.negative, lit.variable, watcher)
+        }
+    }
+
+    /// The clause of that number, which is the next, watches the pair.
+    pub(crate) fn watch(&mut self, index: u32, pair: Pair) -> Result<(), AllocError>
+        requires first_positive { pair.first.variable < length self.old.positive.items }
+        requires first_negative { pair.first.variable < length self.old.negative.items }
+        requires second_positive { pair.second.variable < length self.old.positive.items }
+        requires second_negative { pair.second.variable < length self.old.negative.items }
+        ensures { OnOk result (WatchesMore self.old self.new index pair) }
+    {
+        if pair.first != pair.second {
+            let first = Watcher {
+                index,
+                blocker: pair.second,
+            };
+            let second = Watcher {
+                index,
+                blocker: pair.first,
+            };
+            self.push(pair.first, first)?;
+            self.push(pair.second, second)?;
+        }
+        self.pairs.push(pair)?;
+        Ok(())
+    }
+
+    /// The clause at that place no longer watches the literal, and the last takes its place.
+    pub(crate) fn remove(&mut self, lit: Lit, place: usize)
+        requires positive { lit.variable < length self.old.positive.items }
+        requires negative { lit.variable < length self.old.negative.items }
+        requires within { place < length (watchers_of self.old lit) }
+        ensures { (last : OneWatcher) × IsWritten self.old self.new lit (swap_remove (watchers_of self.old lit) place last) }
+    {
+        if lit.positive {
+            remove_at(&mut self.positive, lit.variable, place);
+        } else {
+            remove_at(&mut self.negative, lit.variable, place);
+        }
+    }
+}
+
+fn push_at(lists: &mut Vec<Vec<Watcher>>, place: u32, watcher: Watcher) -> Result<(), AllocError>
+    requires { place < length lists.old.items }
+    ensures { OnOk result (IsWrittenAt lists.old.items lists.new.items place (list_at lists.old.items place ++ watcher ∷ [])) }
+{
+    lists[place as usize].push(watcher)?;
+    Ok(())
+}
+
+fn remove_at(lists: &mut Vec<Vec<Watcher>>, list: u32, place: usize)
+    requires list { list < length lists.old.items }
+    requires within { place < length (list_at lists.old.items list) }
+    ensures { (last : OneWatcher) × IsWrittenAt lists.old.items lists.new.items list (swap_remove (list_at lists.old.items list) place last) }
+{
+    let _watcher = lists[list as usize].swap_remove(place);
+}
+
+fn no_lists(alloc: Global, variables: u32) -> Result<Vec<Vec<Watcher>>, AllocError>
+    ensures len { IfOk result (λ lists. length lists.items ≡ variables) }
+    ensures none { IfOk result (λ lists. (place : ℕ) → list_at lists.items place ≡ []) }
+{
+    let mut lists = Vec::with_capacity(alloc, variables as usize)?;
+    for _made in 0..variables {
+        lists.push(Vec::new(alloc))?;
+    }
+    Ok(lists)
+}
