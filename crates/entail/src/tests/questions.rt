@@ -14,15 +14,15 @@ fn answer(alloc: Global, text: &str, conflicts: u64) -> Result<Answer, Fail> {
 }
 
 // Laws of two's complement arithmetic modulo 2^32 (C0 Reference, "Operators"). A law over masks
-// is one that the search is too plain for at the full width.
+// is one of products, which the search doesn't reach at the full width.
 const LAWS: [&str; 33] = [
     "x 3 < , x 0 < ! |- x 4 <",
     // groups
-    "x 255 & y 255 & + y 255 & x 255 & + ==",
+    "x y + y x + ==",
     "x 0 + x ==",
     "x x - 0 ==",
     "x neg x ~ 1 + ==",
-    "x 15 & y 15 & + y 15 & - x 15 & ==",
+    "x y + y - x ==",
     // products
     "x 7 & y 7 & * y 7 & x 7 & * ==",
     "x 0 * 0 ==",
@@ -36,8 +36,8 @@ const LAWS: [&str; 33] = [
     "1 neg 1 >> 1 neg ==",
     // bits
     "x y & y x & ==",
-    "x 15 & y 15 & | y 15 & x 15 & | ==",
-    "x 15 & y 15 & ^ y 15 & x 15 & ^ ==",
+    "x y | y x | ==",
+    "x y ^ y x ^ ==",
     "x x ^ 0 ==",
     "x ~ ~ x ==",
     "x y & ~ x ~ y ~ | ==",
@@ -49,8 +49,8 @@ const LAWS: [&str; 33] = [
     // orders
     "x x < !",
     "x y < |- y x < !",
-    "x 15 & y 15 & < , y 15 & z 15 & < |- x 15 & z 15 & <",
-    "x 15 & y 15 & < y 15 & x 15 & < || x 15 & y 15 & == ||",
+    "x y < , y z < |- x z <",
+    "x y < y x < || x y == ||",
     "x 2147483647 < |- x x 1 + <",
     "x 0 == ! , x 0 < ! |- 0 x <",
     // congruence
