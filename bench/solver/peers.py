@@ -27,6 +27,8 @@ PEERS = {
     "cadical": lambda cnf, out: ["cadical", "-q", cnf],
 }
 NAMES = {10: "sat", 20: "unsat", 0: "unknown"}
+# A shorter time says more of how a program starts than of its search.
+LEAST = 0.01
 
 
 def spent():
@@ -124,9 +126,19 @@ def families(quick):
         return {"random": [(n, some) for n in (20, 40, 60)], "pigeons": [(n, few) for n in (3, 4, 5)],
                 "sums": [(n, few) for n in (4, 6, 8)], "products": [(n, few) for n in (2, 3)],
                 "shifts": [(n, few) for n in (4, 8)]}
-    return {"random": [(n, some) for n in (50, 75, 100, 125, 150)], "pigeons": [(n, few) for n in range(3, 9)],
-            "sums": [(n, few) for n in (4, 8, 12, 16, 24, 32)], "products": [(n, few) for n in range(4, 9)],
-            "shifts": [(n, few) for n in (8, 16, 32)]}
+    return {"random": [(n, some) for n in (50, 75, 100, 125, 150, 175, 200)], "pigeons": [(n, few) for n in range(3, 9)],
+            "sums": [(n, few) for n in (4, 8, 16, 32, 64, 128)], "products": [(n, few) for n in range(4, 9)],
+            "shifts": [(n, few) for n in (8, 16, 32, 64, 128)]}
+
+
+def slope(points):
+    """By how much the logarithm of the time rises with one more of size, by least squares."""
+    if len({size for size, _ in points}) < 2:
+        return float("nan")
+    middle = sum(size for size, _ in points) / len(points)
+    height = sum(math.log(seconds) for _, seconds in points) / len(points)
+    above = sum((size - middle) * (math.log(seconds) - height) for size, seconds in points)
+    return above / sum((size - middle) ** 2 for size, _ in points)
 
 
 def mean(numbers):
@@ -162,6 +174,14 @@ def shown(each):
     return ("≥ " if any(late for _, late in each) else "") + f"{mean([ratio for ratio, _ in each]):.2f}"
 
 
+def add_points(points, size, row):
+    """A formula counts for the growth where both answered it, and minisat not too fast to be measured."""
+    own, minisat = row["sat_cli"], row.get("minisat")
+    if minisat and {own.answer, minisat.answer} <= {"sat", "unsat"} and minisat.seconds >= LEAST:
+        points["sat_cli"].append((size, own.seconds))
+        points["minisat"].append((size, minisat.seconds))
+
+
 def cell(run):
     return f"{run.seconds:.3f}" if run.answer in ("sat", "unsat") else run.answer
 
@@ -172,13 +192,17 @@ def time_families(bench, quick):
     print("| family | size | answer | " + " | ".join(solvers) + " | ratio |")
     print("|---" * (len(solvers) + 4) + "|")
     ratios = {}
+    growth = {}
     for family, sizes in families(quick).items():
+        points = growth[family] = {"sat_cli": [], "minisat": []}
         for size, seeds in sizes:
             rows = [bench.solve(f"{family} {size} {seed}", make_formulas.make(family, size, seed)) for seed in seeds]
             middle = {s: sorted((row[s] for row in rows), key=lambda run: run.seconds)[len(rows) // 2] for s in solvers}
             each = [ratio_of(row, bench.options.limit) for row in rows if "minisat" in row]
             each = [ratio for ratio in each if ratio]
             ratios.setdefault(family, []).extend(each)
+            for row in rows:
+                add_points(points, size, row)
             answers = "/".join(sorted({row["sat_cli"].answer for row in rows}))
             ratio = shown(each)
             print(f"| {family} | {size} | {answers} | " + " | ".join(cell(middle[s]) for s in solvers) + f" | {ratio} |", flush=True)
@@ -186,6 +210,17 @@ def time_families(bench, quick):
     ratios["all"] = [ratio for each in ratios.values() for ratio in each]
     for family, each in ratios.items():
         print(f"| {family} | {len(each)} | {sum(late for _, late in each)} | {shown(each)} |")
+    print()
+    show_growth(growth)
+
+
+def show_growth(growth):
+    print(f"Growth: by how much the logarithm of the time rises with one more of size, where both answered, minisat in {LEAST} s or more.\n")
+    print("| family | sizes | formulas | sat_cli | minisat |\n|---|---|---|---|---|")
+    for family, points in growth.items():
+        sizes = " ".join(str(size) for size in sorted({size for size, _ in points["minisat"]}))
+        own, minisat = slope(points["sat_cli"]), slope(points["minisat"])
+        print(f"| {family} | {sizes} | {len(points['minisat'])} | {own:.4f} | {minisat:.4f} |")
     print()
 
 
