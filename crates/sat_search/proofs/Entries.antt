@@ -1,33 +1,16 @@
 -- One entry more.
-use Rattle.std.proofs.Common.{◌≡◌, ◌≢◌, ◌⊎◌, ◌∙◌, ℕ, ◌+◌, ◌-◌, ◌<◌, ◌≤◌, true, List, [], ◌∷◌, ◌++◌, Some, None, length, map, set, get_or, take, arith, refl, sym, ap, subst, inl, inr, append_assoc}
+use Rattle.std.proofs.Common.{◌≡◌, ◌≢◌, ◌∙◌, ℕ, ◌+◌, ◌-◌, ◌<◌, ◌≤◌, List, [], ◌∷◌, ◌++◌, Some, length, map, arith, refl, sym, ap, subst, inl, inr, append_assoc}
 use Rattle.std.specs.List.{slice_get, Contains}
-use Rattle.std.specs.declared.vec.Vec.{Vec}
-use Rattle.std.specs.declared.alloc.Global.{Global}
-use Rattle.std.proofs.lemmas.Bool.{cases_eq, cases_order}
-use Rattle.std.proofs.lemmas.Option.{same_Some, none-some, slice_get_within, slice_get-get_or}
-use Rattle.std.proofs.lemmas.List.{length-set, length-append, length-map, length-take-le, take_at, map_push}
-use Rattle.std.proofs.lemmas.List.Elements.{All-contains, All-push, Contains-get_or}
+use Rattle.std.proofs.lemmas.Bool.{cases_eq}
+use Rattle.std.proofs.lemmas.Option.{same_Some, slice_get_within}
+use Rattle.std.proofs.lemmas.List.{length-append, length-map, take_at, map_push}
 use Rattle.sat_check.specs.declared.clause.Lit.{Lit}
 use Rattle.sat_check.specs.declared.clause.Clause.{Clause}
 use Rattle.sat_check.specs.declared.log.Entry.{Entry}
-use Rattle.sat_check.specs.Clauses.{opposite_of, AreBelow}
-use Rattle.sat_check.specs.Logs.{HasNoValue, IsUnit, Follows, IsNew, known_before, AllFollow, AllNew, IsRefutation, EntriesAreBelow}
-use Rattle.sat_check.proofs.Lists.{at_within, Contains-nil, Contains-at, Contains-index}
-use Rattle.sat_check.proofs.Verdicts.{HasEmpty-push}
-use Rattle.sat_search.specs.declared.trail.Slot.{Slot}
+use Rattle.sat_check.specs.Logs.{Follows, IsNew, known_before, AllFollow, AllNew}
 use Rattle.sat_search.specs.declared.trail.Step.{Step}
-use Rattle.sat_search.specs.Trails.{falses_of, IsStep, Keeps, IsStuck}
-use Rattle.sat_search.specs.PlainOccurrences.{occurrences_of, Adds, IsComplete}
-use Rattle.sat_search.specs.PlainAnalysis.{IsDecision, Learns}
-use Rattle.sat_search.specs.PlainStates.{IsState, IsAhead}
-use Rattle.sat_search.specs.States.{LevelsAre, EntriesAre, IsStart}
-use Rattle.sat_search.proofs.Lists.{slice_get-append_left, slice_get-push, slice_get-push_cases, slice_get-take, take_slice_get, take_within, take-take}
-use Rattle.sat_search.proofs.Places.{falses_more}
-use Rattle.sat_search.proofs.Trails.{shown_once, falses-push, Keeps-push, Keeps-known}
-use Rattle.sat_search.proofs.PlainSettling.{IsSettled-push}
-use Rattle.sat_search.proofs.Settling.{cases_Contains, IsStuck-single, IsStep-single}
-use Rattle.sat_search.proofs.Refuting.{one_place, false_below}
-use Rattle.sat_search.proofs.Levels.{stuck_refutes_none}
+use Rattle.sat_search.specs.States.{LevelsAre}
+use Rattle.sat_search.proofs.Lists.{slice_get-push_cases, take_within}
 
 pub some_lit : (lits : List Lit) → lits ≢ [] → (lit : Lit) × Contains lits lit
 some_lit [] ne = absurd (ne refl)

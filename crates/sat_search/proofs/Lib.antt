@@ -6,11 +6,18 @@ pub mod Refuting
 pub mod Levels
 pub mod Entries
 pub mod Watching
+pub mod Flags
+pub mod Signatures
+pub mod Shelving
 pub mod Looking
+pub mod Blocking
+pub mod Guarding
 pub mod Moves
 pub mod Pushing
 pub mod Adding
 pub mod Keeping
+pub mod Retaking
+pub mod Reducing
 pub mod Counting
 pub mod Solutions
 pub mod PlainAnalyzing
@@ -20,3 +27,5 @@ pub mod PlainSettling
 pub mod PlainStates
 pub mod Adapting
 pub mod Walking
+pub mod Turning
+pub mod Measures

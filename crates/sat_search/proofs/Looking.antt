@@ -1,31 +1,31 @@
 -- What a look at a watcher keeps.
-use Rattle.std.proofs.Common.{◌≡◌, ◌⊎◌, ◌∙◌, ◌≢◌, ℕ, zero, suc, ◌+◌, ◌-◌, ◌<◌, ◌≤◌, true, false, List, [], ◌∷◌, ◌++◌, Some, None, length, map, set, get_or, take, arith, refl, sym, ap, subst, inl, inr, append-nil}
+use Rattle.std.proofs.Common.{◌≡◌, ◌⊎◌, ◌∙◌, ◌≢◌, ℕ, ◌+◌, ◌-◌, ◌<◌, ◌≤◌, true, false, List, [], ◌∷◌, ◌++◌, Some, None, length, map, set, get_or, arith, refl, sym, ap, subst, inl, inr}
 use Rattle.std.specs.Option.{IsSome}
-use Rattle.std.specs.List.{All, Contains, slice_get, swap_remove}
+use Rattle.std.specs.List.{Contains, slice_get, swap_remove}
 use Rattle.std.proofs.lemmas.Bool.{cases_eq}
-use Rattle.std.proofs.lemmas.Option.{same_Some, none-some, slice_get_within, slice_get-get_or}
-use Rattle.std.proofs.lemmas.List.{length-set, length-append, length-take-le, map-append, map_push}
-use Rattle.std.proofs.lemmas.List.Elements.{All-contains, All-nil, All-cons, Contains-push, Contains-append_left, Contains-push_cases, Contains-get_or}
+use Rattle.std.proofs.lemmas.Option.{same_Some, slice_get_within}
+use Rattle.std.proofs.lemmas.List.{length-set, length-take-le, map-append}
+use Rattle.std.proofs.lemmas.List.Elements.{All-nil, All-cons, Contains-append_left, Contains-push_cases}
 use Rattle.sat_check.specs.declared.clause.Lit.{Lit}
 use Rattle.sat_check.specs.declared.clause.Clause.{Clause}
 use Rattle.sat_check.specs.Clauses.{opposite_of}
-use Rattle.sat_check.specs.Logs.{HasNoValue, IsUnit}
-use Rattle.sat_check.proofs.Lists.{Contains-at, Contains-index, slice_get-set_same, slice_get-set_other, opposite-opposite, at_within}
+use Rattle.sat_check.proofs.Lists.{Contains-index, slice_get-set_same, slice_get-set_other}
 use Rattle.sat_search.specs.declared.trail.Slot.{Slot}
 use Rattle.sat_search.specs.declared.trail.Step.{Step}
 use Rattle.sat_search.specs.declared.placed.PlacedTrail.{PlacedTrail}
 use Rattle.sat_search.specs.declared.watches.Watcher.{Watcher}
 use Rattle.sat_search.specs.declared.watches.Pair.{Pair}
 use Rattle.sat_search.specs.declared.watches.Watches.{Watches}
-use Rattle.sat_search.specs.Trails.{falses_of, Keeps, IsStep, IsStuck, AllStuck}
+use Rattle.sat_search.specs.Trails.{falses_of, Keeps, IsStep}
 use Rattle.sat_search.specs.Propagation.{Extends}
-use Rattle.sat_search.specs.Watches.{IsLocated, IsTrail, watchers_of, IsWritten, IsListed, IsPairOf, IsWatcher, AreWatched, HasTrue, IsFree, Guards, AllGuarded, AllDue, Within, Advances}
+use Rattle.sat_search.specs.Watches.{IsLocated, IsTrail, watchers_of, IsWritten, IsListed, IsPairOf, IsWatcher, AreWatched, HasTrue, IsFree, Guards, AllGuarded, AllDue, Within, flags_of, Advances}
 use Rattle.sat_search.specs.Looks.{OtherIs, IsLookedAt, IsRewatched}
 use Rattle.sat_search.proofs.Lists.{slice_get-append_left, slice_get-push, slice_get-push_cases}
-use Rattle.sat_search.proofs.Trails.{Keeps-push, falses-push, shown_once}
+use Rattle.sat_search.proofs.Trails.{Keeps-push}
 use Rattle.sat_search.proofs.Settling.{cases_lit, Extends-none, Extends-both}
 use Rattle.sat_search.proofs.Refuting.{earlier_apart}
 use Rattle.sat_search.proofs.Watching.{swap_remove-keeps, swap_remove-among}
+use Rattle.sat_search.proofs.Flags.{flags-set}
 
 pub Extends-within : (old new : List Step) → Extends old new → Within (falses_of old) (falses_of new)
 Extends-within old new (more, is, by) lit h =
@@ -44,8 +44,8 @@ Guards-fewer falses before fewer pair lits within guards =
     ]
 
 AllDue-grow : (known : List Clause) (watches : Watches) (falses many before : List Lit) (f : Lit) (from : ℕ) → Within falses many → AllDue known watches falses before f from → AllDue known watches many before f from
-AllDue-grow known watches falses many before f from within due index clause pair named paired =
-    elim (due index clause pair named paired) [
+AllDue-grow known watches falses many before f from within due index clause pair named paired hot =
+    elim (due index clause pair named paired hot) [
       | inl guards ↦ inl (Guards-grow falses many (before ++ f ∷ []) pair clause.lits within guards)
       | inr it ↦ inr (Guards-grow falses many before pair clause.lits within it.0, it.1)
     ]
@@ -55,8 +55,8 @@ AllDue-next :
     (known : List Clause) (watches : Watches) (falses before : List Lit) (f : Lit) (place : ℕ) (watcher : Watcher) → slice_get (watchers_of watches f) place ≡ Some watcher
     → ((clause : Clause) (pair : Pair) → slice_get known watcher.index ≡ Some clause → slice_get watches.pairs.items watcher.index ≡ Some pair → Guards falses (before ++ f ∷ []) pair clause.lits)
     → AllDue known watches falses before f place → AllDue known watches falses before f (place + 1)
-AllDue-next known watches falses before f place watcher at guarded due index clause pair named paired =
-    elim (due index clause pair named paired) [
+AllDue-next known watches falses before f place watcher at guarded due index clause pair named paired hot =
+    elim (due index clause pair named paired hot) [
       | inl guards ↦ inl guards
       | inr it ↦
           elim (cases_eq index watcher.index) [
@@ -74,7 +74,7 @@ AllDue-next known watches falses before f place watcher at guarded due index cla
 
 pub Advances-none : (known : List Clause) (placed : PlacedTrail) (watches : Watches) → IsTrail known placed → AreWatched (length placed.trail.slots.items) known watches → Advances known placed placed watches watches
 Advances-none known placed watches trail watched =
-    record { len = refl; trail = trail; extends = Extends-none placed.trail.steps.items; watched = watched; cuts = λ falses within all. all }
+    record { len = refl; trail = trail; extends = Extends-none placed.trail.steps.items; watched = watched; flags = refl; cuts = λ falses within all. all }
 
 pub Advances-both : (known : List Clause) (a b c : PlacedTrail) (x y z : Watches) → Advances known a b x y → Advances known b c y z → Advances known a c x z
 Advances-both known a b c x y z first then =
@@ -83,6 +83,7 @@ Advances-both known a b c x y z first then =
       trail = then.trail;
       extends = Extends-both a.trail.steps.items b.trail.steps.items c.trail.steps.items first.extends then.extends;
       watched = then.watched;
+      flags = then.flags ∙ first.flags;
       cuts = λ falses within all.
           then.cuts falses (λ lit h. Extends-within a.trail.steps.items b.trail.steps.items first.extends lit (within lit h)) (first.cuts falses within all);
     }
@@ -165,9 +166,9 @@ pub Leaves-due :
     (known : List Clause) (old new : Watches) (falses before : List Lit) (f : Lit) (place : ℕ) (watcher last : Watcher) (pair : Pair)
     → slice_get (watchers_of old f) place ≡ Some watcher → slice_get old.pairs.items watcher.index ≡ Some pair → OtherIs pair f None
     → IsWritten old new f (swap_remove (watchers_of old f) place last) → AllDue known old falses before f place → AllDue known new falses before f place
-Leaves-due known old new falses before f place watcher last pair at paired other written due index clause it named here =
+Leaves-due known old new falses before f place watcher last pair at paired other written due index clause it named here hot =
     let there : slice_get old.pairs.items index ≡ Some it = subst (λ (l : List Pair). slice_get l index ≡ Some it) written.pairs here in
-    elim (due index clause it named there) [
+    elim (due index clause it named there hot) [
       | inl guards ↦ inl guards
       | inr both ↦
           elim (cases_eq watcher.index index) [
@@ -237,15 +238,24 @@ module _ (variables : ℕ) (known : List Clause) (old new : Watches) (falses : L
   at_index = looked.at
 
   -- what a number's pair is now
-  pair_cases : (k : ℕ) (pair : Pair) → slice_get new.pairs.items k ≡ Some pair → ((k ≡ index) × (pair ≡ record { first = other; second = lit })) ⊎ ((k ≡ index → ⊥) × (slice_get old.pairs.items k ≡ Some pair))
+  pair_cases : (k : ℕ) (pair : Pair) → slice_get new.pairs.items k ≡ Some pair → ((k ≡ index) × (pair ≡ record { first = other; second = lit; aside = it.pair.aside })) ⊎ ((k ≡ index → ⊥) × (slice_get old.pairs.items k ≡ Some pair))
   pair_cases k pair at =
-      let now : Pair = record { first = other; second = lit } in
+      let now : Pair = record { first = other; second = lit; aside = it.pair.aside } in
       let at' : slice_get (set old.pairs.items index now) k ≡ Some pair = subst (λ (l : List Pair). slice_get l k ≡ Some pair) it.pairs at in
       let within : index < length old.pairs.items = slice_get_within old.pairs.items index looked.pair looked.paired in
       elim (cases_eq k index) [
         | inl same ↦ inl (same, same_Some pair now (sym (subst (λ (n : ℕ). slice_get (set old.pairs.items index now) n ≡ Some pair) same at') ∙ slice_get-set_same old.pairs.items index now within))
         | inr differs ↦ inr (differs, sym (slice_get-set_other old.pairs.items index k now differs) ∙ at')
       ]
+
+  -- it has the flag of the pair that was looked at
+  looked_hot : (pair : Pair) → pair ≡ record { first = other; second = lit; aside = it.pair.aside } → pair.aside ≡ false → looked.pair.aside ≡ false
+  looked_hot pair now hot = ap (λ (p : Pair). p.aside) (same_Some looked.pair it.pair (sym looked.paired ∙ it.paired)) ∙ sym (ap (λ (p : Pair). p.aside) now) ∙ hot
+
+  pub Rewatched-flags : flags_of new.pairs.items ≡ flags_of old.pairs.items
+  Rewatched-flags =
+      let now : Pair = record { first = other; second = lit; aside = it.pair.aside } in
+      ap (λ (l : List Pair). flags_of l) it.pairs ∙ flags-set old.pairs.items index it.pair now it.paired refl
 
   relisted : (l : Lit) (k : ℕ) → (k ≡ index → ⊥) → IsListed (watchers_of old l) 0 k → IsListed (watchers_of new l) 0 k
   relisted l k differs listed =
@@ -269,12 +279,12 @@ module _ (variables : ℕ) (known : List Clause) (old new : Watches) (falses : L
       record {
         positive_len = it.positive_len ∙ watched.positive_len;
         negative_len = it.negative_len ∙ watched.negative_len;
-        pairs_len = ap (λ (l : List Pair). length l) it.pairs ∙ length-set old.pairs.items index (record { first = other; second = lit }) ∙ watched.pairs_len;
+        pairs_len = ap (λ (l : List Pair). length l) it.pairs ∙ length-set old.pairs.items index (record { first = other; second = lit; aside = it.pair.aside }) ∙ watched.pairs_len;
         pairs = λ k c pair named' at apart'.
             elim (pair_cases k pair at) [
               | inl now ↦
                   let same : c ≡ clause = same_Some c clause (sym (subst (λ (n : ℕ). slice_get known n ≡ Some c) now.0 named') ∙ named) in
-                  let own : IsPairOf new index clause.lits (record { first = other; second = lit }) =
+                  let own : IsPairOf new index clause.lits (record { first = other; second = lit; aside = it.pair.aside }) =
                   record {
                     first_stands = other_stands;
                     second_stands = stands;
@@ -312,34 +322,34 @@ module _ (variables : ℕ) (known : List Clause) (old new : Watches) (falses : L
       }
 
   pub Rewatched-cuts : (cut : List Lit) → Within cut falses → AllGuarded known old.pairs.items cut cut → AllGuarded known new.pairs.items cut cut
-  Rewatched-cuts cut within all k c pair named' at =
+  Rewatched-cuts cut within all k c pair named' at hot =
       elim (pair_cases k pair at) [
         | inl now ↦
             let here : slice_get known index ≡ Some c = subst (λ (n : ℕ). slice_get known n ≡ Some c) now.0 named' in
-            elim (all index c looked.pair here looked.paired) [
+            elim (all index c looked.pair here looked.paired (looked_hot pair now.1 hot)) [
               | inl is_true ↦ inl is_true
               | inr free ↦
-                  let own : IsFree cut (record { first = other; second = lit }) =
+                  let own : IsFree cut (record { first = other; second = lit; aside = it.pair.aside }) =
                   record { first = other-before looked.pair f other cut looked.is free; second = λ h. not_false (within lit h); apart = λ e. apart (sym e) } in
                   inr (subst (IsFree cut) (sym now.1) own)
             ]
-        | inr was ↦ all k c pair named' was.1
+        | inr was ↦ all k c pair named' was.1 hot
       ]
 
   pub Rewatched-due : (before : List Lit) → Within before falses → AllDue known old falses before f place → AllDue known new falses before f place
-  Rewatched-due before within due k c pair named' at =
+  Rewatched-due before within due k c pair named' at hot =
       elim (pair_cases k pair at) [
         | inl now ↦
             let here : slice_get known index ≡ Some c = subst (λ (n : ℕ). slice_get known n ≡ Some c) now.0 named' in
             let guards : Guards falses before looked.pair c.lits =
-            elim (due index c looked.pair here looked.paired) [
+            elim (due index c looked.pair here looked.paired (looked_hot pair now.1 hot)) [
               | inl late ↦ Guards-fewer falses (before ++ f ∷ []) before looked.pair c.lits (λ l h. Contains-append_left before (f ∷ []) l h) late
               | inr both ↦ both.0
             ] in
             elim guards [
               | inl is_true ↦ inl (inl is_true)
               | inr free ↦
-                  let own : IsFree (before ++ f ∷ []) (record { first = other; second = lit }) =
+                  let own : IsFree (before ++ f ∷ []) (record { first = other; second = lit; aside = it.pair.aside }) =
                   record {
                     first = λ h. elim (Contains-push_cases before f other h) [ inl sooner ↦ other-before looked.pair f other before looked.is free sooner | inr e ↦ other_f (sym e) ];
                     second = λ h. elim (Contains-push_cases before f lit h) [ inl sooner ↦ not_false (within lit sooner) | inr e ↦ lit_f (sym e) ];
@@ -348,7 +358,7 @@ module _ (variables : ℕ) (known : List Clause) (old new : Watches) (falses : L
                   inl (inr (subst (IsFree (before ++ f ∷ [])) (sym now.1) own))
             ]
         | inr was ↦
-            elim (due k c pair named' was.1) [
+            elim (due k c pair named' was.1 hot) [
               | inl guards ↦ inl guards
               | inr both ↦
                   inr (
@@ -406,6 +416,7 @@ Advances-push known old new watches step trail watched reason len steps =
       trail = trail;
       extends = (step ∷ [], steps, All-cons (λ (s : Step). IsSome s.reason) step [] reason (All-nil (λ (s : Step). IsSome s.reason)));
       watched = AreWatched-len (length old.trail.slots.items) (length new.trail.slots.items) known watches (sym len) watched;
+      flags = refl;
       cuts = λ falses within all. all;
     }
 
@@ -422,17 +433,17 @@ Look-assigned known old new watches before f other place watcher clause advances
 pub Advances-rewatched :
     (known : List Clause) (placed : PlacedTrail) (old new : Watches) → IsTrail known placed → AreWatched (length placed.trail.slots.items) known new
     → ((cut : List Lit) → Within cut (falses_of placed.trail.steps.items) → AllGuarded known old.pairs.items cut cut → AllGuarded known new.pairs.items cut cut)
-    → Advances known placed placed old new
-Advances-rewatched known placed old new trail watched cuts =
-    record { len = refl; trail = trail; extends = Extends-none placed.trail.steps.items; watched = watched; cuts = cuts }
+    → flags_of new.pairs.items ≡ flags_of old.pairs.items → Advances known placed placed old new
+Advances-rewatched known placed old new trail watched cuts flags =
+    record { len = refl; trail = trail; extends = Extends-none placed.trail.steps.items; watched = watched; flags = flags; cuts = cuts }
 
 -- ---- a list from its start to its end
 
 pub AllDue-start :
     (variables : ℕ) (known : List Clause) (watches : Watches) (falses before : List Lit) (f : Lit) → AreWatched variables known watches → AllGuarded known watches.pairs.items falses before
     → AllDue known watches falses before f 0
-AllDue-start variables known watches falses before f watched guarded index clause pair named paired =
-    let guards = guarded index clause pair named paired in
+AllDue-start variables known watches falses before f watched guarded index clause pair named paired hot =
+    let guards = guarded index clause pair named paired hot in
     elim guards [
       | inl is_true ↦ inl (inl is_true)
       | inr free ↦
@@ -457,8 +468,8 @@ AllDue-start variables known watches falses before f watched guarded index claus
 pub AllDue-end :
     (known : List Clause) (watches : Watches) (falses before : List Lit) (f : Lit) (place : ℕ) → length (watchers_of watches f) ≤ place → AllDue known watches falses before f place
     → AllGuarded known watches.pairs.items falses (before ++ f ∷ [])
-AllDue-end known watches falses before f place all due index clause pair named paired =
-    elim (due index clause pair named paired) [
+AllDue-end known watches falses before f place all due index clause pair named paired hot =
+    elim (due index clause pair named paired hot) [
       | inl guards ↦ guards
       | inr both ↦ let listed = both.1 in absurd (omega (arith, listed.late, slice_get_within (watchers_of watches f) listed.place listed.watcher listed.at))
     ]

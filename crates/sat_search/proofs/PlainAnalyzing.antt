@@ -1,16 +1,15 @@
 -- The steps by which a conflict is gone over.
-use Rattle.std.proofs.Common.{◌≡◌, ◌⊎◌, ◌∙◌, ℕ, ◌+◌, ◌-◌, ◌<◌, ◌≤◌, Bool, true, false, List, [], ◌∷◌, ◌++◌, Option, Some, None, length, set, get_or, take, reverse, arith, sym, ap, subst, inl, inr}
-use Rattle.std.specs.Option.{IsSome}
+use Rattle.std.proofs.Common.{◌≡◌, ◌⊎◌, ◌∙◌, ℕ, ◌+◌, ◌-◌, ◌<◌, ◌≤◌, Bool, true, false, List, [], ◌∷◌, ◌++◌, Some, None, length, set, get_or, take, reverse, arith, sym, ap, subst, inl, inr}
 use Rattle.std.specs.List.{All, slice_get, Contains}
 use Rattle.std.proofs.lemmas.Bool.{cases_eq, cases_order, false≢true}
-use Rattle.std.proofs.lemmas.Option.{same_Some, none-some, slice_get_within}
+use Rattle.std.proofs.lemmas.Option.{same_Some, slice_get_within}
 use Rattle.std.proofs.lemmas.List.{reverse-append}
 use Rattle.std.proofs.lemmas.List.Elements.{All-push, Contains-push, Contains-append_left, Contains-push_cases}
 use Rattle.sat_check.specs.declared.clause.Lit.{Lit}
 use Rattle.sat_check.specs.declared.clause.Clause.{Clause}
 use Rattle.sat_check.specs.Clauses.{opposite_of}
 use Rattle.sat_check.specs.Logs.{HasNoValue, IsUnit, Refutes}
-use Rattle.sat_check.proofs.Lists.{same_lit, cases_sign, opposite-opposite, Contains-nil, Contains-there, Contains-here, Contains-cons_cases, slice_get-set_same, slice_get-set_other}
+use Rattle.sat_check.proofs.Lists.{opposite-opposite, Contains-nil, Contains-there, Contains-here, Contains-cons_cases, slice_get-set_same, slice_get-set_other}
 use Rattle.sat_search.specs.declared.trail.Slot.{Slot}
 use Rattle.sat_search.specs.declared.trail.Step.{Step}
 use Rattle.sat_search.specs.Trails.{falses_of, Keeps}

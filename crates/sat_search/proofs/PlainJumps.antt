@@ -1,17 +1,17 @@
 -- A jump back after a conflict keeps the state of a search.
-use Rattle.std.proofs.Common.{◌≡◌, ◌≢◌, ◌⊎◌, ◌∙◌, ℕ, ◌+◌, ◌-◌, ◌<◌, ◌≤◌, true, List, [], ◌∷◌, ◌++◌, Some, None, length, map, set, get_or, take, arith, refl, sym, ap, subst, inl, inr, append_assoc}
+use Rattle.std.proofs.Common.{◌≡◌, ◌≢◌, ◌⊎◌, ◌∙◌, ℕ, ◌+◌, ◌-◌, ◌<◌, ◌≤◌, true, List, [], ◌∷◌, ◌++◌, Some, None, length, map, set, get_or, take, arith, refl, sym, ap, subst, inl, inr}
 use Rattle.std.specs.List.{slice_get, Contains}
 use Rattle.std.specs.declared.vec.Vec.{Vec}
 use Rattle.std.specs.declared.alloc.Global.{Global}
-use Rattle.std.proofs.lemmas.Bool.{cases_eq, cases_order}
-use Rattle.std.proofs.lemmas.Option.{same_Some, none-some, slice_get_within, slice_get-get_or}
-use Rattle.std.proofs.lemmas.List.{length-set, length-append, length-map, length-take-le, take_at, map_push}
+use Rattle.std.proofs.lemmas.Bool.{cases_order}
+use Rattle.std.proofs.lemmas.Option.{same_Some, none-some, slice_get-get_or}
+use Rattle.std.proofs.lemmas.List.{length-set, length-append, length-take-le}
 use Rattle.std.proofs.lemmas.List.Elements.{All-contains, All-push, Contains-get_or}
 use Rattle.sat_check.specs.declared.clause.Lit.{Lit}
 use Rattle.sat_check.specs.declared.clause.Clause.{Clause}
 use Rattle.sat_check.specs.declared.log.Entry.{Entry}
 use Rattle.sat_check.specs.Clauses.{opposite_of, AreBelow}
-use Rattle.sat_check.specs.Logs.{HasNoValue, IsUnit, Follows, IsNew, known_before, AllFollow, AllNew, IsRefutation, EntriesAreBelow}
+use Rattle.sat_check.specs.Logs.{HasNoValue, IsUnit, Follows, IsNew, known_before, IsRefutation, EntriesAreBelow}
 use Rattle.sat_check.proofs.Lists.{at_within, Contains-nil, Contains-at, Contains-index}
 use Rattle.sat_check.proofs.Verdicts.{HasEmpty-push}
 use Rattle.sat_search.specs.declared.trail.Slot.{Slot}

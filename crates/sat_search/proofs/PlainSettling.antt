@@ -1,17 +1,15 @@
 -- Clauses that are settled, as a trail grows.
-use Rattle.std.proofs.Common.{◌≡◌, ◌⊎◌, ◌∙◌, ℕ, ◌+◌, ◌<◌, ◌≤◌, true, false, List, [], ◌∷◌, ◌++◌, Some, None, length, set, arith, refl, sym, ap, subst, inl, inr, append_assoc, append-nil}
+use Rattle.std.proofs.Common.{◌≡◌, ◌∙◌, ℕ, ◌+◌, ◌<◌, ◌≤◌, true, false, List, [], ◌∷◌, ◌++◌, Some, None, length, set, arith, refl, sym, ap, subst, inl, inr, append_assoc, append-nil}
 use Rattle.std.specs.Option.{IsSome}
 use Rattle.std.specs.List.{slice_get, Contains}
 use Rattle.std.proofs.lemmas.Bool.{cases_eq, false≢true}
 use Rattle.std.proofs.lemmas.Option.{same_Some, slice_get_within}
 use Rattle.std.proofs.lemmas.List.{length-append, map_push}
-use Rattle.std.proofs.lemmas.List.Elements.{All-nil, All-cons, All-append, Contains-push, Contains-append_left, Contains-push_cases, Contains-get_or}
+use Rattle.std.proofs.lemmas.List.Elements.{All-nil, All-cons, Contains-append_left, Contains-push_cases, Contains-get_or}
 use Rattle.sat_check.specs.declared.clause.Lit.{Lit}
 use Rattle.sat_check.specs.declared.clause.Clause.{Clause}
 use Rattle.sat_check.specs.Clauses.{opposite_of}
 use Rattle.sat_check.specs.Logs.{IsUnit}
-use Rattle.sat_check.proofs.Lists.{same_lit, not-same, cases_sign, opposite-opposite, Contains-here, Contains-there, Contains-cons_cases}
-use Rattle.sat_check.proofs.Walks.{Neither-true}
 use Rattle.sat_search.specs.declared.trail.Slot.{Slot}
 use Rattle.sat_search.specs.declared.trail.Step.{Step}
 use Rattle.sat_search.specs.Trails.{falses_of, IsStep, Keeps, IsStuck, AllStuck}
@@ -19,7 +17,7 @@ use Rattle.sat_search.specs.PlainPropagation.{IsSettled, AllSettled, Visits, Vis
 use Rattle.sat_search.specs.Propagation.{Extends}
 use Rattle.sat_search.proofs.Trails.{Keeps-push, falses-push}
 use Rattle.sat_search.proofs.Lists.{slice_get-append_left, slice_get-push}
-use Rattle.sat_search.proofs.Settling.{cases_lit, cases_Contains, Extends-none, Extends-both, Extends-length, IsStuck-single, IsStep-single, steps_within}
+use Rattle.sat_search.proofs.Settling.{cases_Contains, Extends-none, IsStuck-single, IsStep-single}
 
 -- a clause without the literal stays stuck when that becomes false
 IsStuck-push : (falses lits : List Lit) (f : Lit) → (Contains lits f → ⊥) → IsStuck falses lits → IsStuck (falses ++ f ∷ []) lits

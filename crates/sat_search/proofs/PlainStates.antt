@@ -1,34 +1,24 @@
 -- The moves of a search keep its state.
-use Rattle.std.proofs.Common.{◌≡◌, ◌⊎◌, ◌∙◌, ℕ, zero, suc, ◌+◌, ◌-◌, ◌<◌, Bool, true, false, List, [], ◌∷◌, ◌++◌, Option, Some, None, length, set, get_or, take, arith, refl, sym, ap, subst, inl, inr}
-use Rattle.std.specs.Option.{IsSome}
-use Rattle.std.specs.List.{slice_get, Contains}
+use Rattle.std.proofs.Common.{◌≡◌, ◌∙◌, ℕ, ◌+◌, ◌-◌, Bool, true, false, List, [], ◌∷◌, ◌++◌, Option, Some, None, length, set, arith, refl, sym, ap, subst, inl}
+use Rattle.std.specs.List.{slice_get}
 use Rattle.std.specs.declared.vec.Vec.{Vec}
 use Rattle.std.specs.declared.alloc.Global.{Global}
-use Rattle.std.proofs.lemmas.Bool.{cases_eq}
-use Rattle.std.proofs.lemmas.Option.{same_Some, none-some, slice_get_within}
-use Rattle.std.proofs.lemmas.List.{length-set, length-append, take_at}
-use Rattle.std.proofs.lemmas.List.Elements.{All-contains, Contains-push, Contains-append_left}
+use Rattle.std.proofs.lemmas.Option.{none-some, slice_get_within}
+use Rattle.std.proofs.lemmas.List.{length-set, length-append}
 use Rattle.sat_check.specs.declared.clause.Lit.{Lit}
 use Rattle.sat_check.specs.declared.clause.Clause.{Clause}
 use Rattle.sat_check.specs.declared.log.Entry.{Entry}
-use Rattle.sat_check.specs.Clauses.{opposite_of}
-use Rattle.sat_check.specs.Logs.{Refutes, known_before}
-use Rattle.sat_check.proofs.Lists.{Contains-at, Contains-index, Contains-cons_cases}
+use Rattle.sat_check.specs.Logs.{known_before}
 use Rattle.sat_search.specs.declared.trail.Slot.{Slot}
 use Rattle.sat_search.specs.declared.trail.Step.{Step}
 use Rattle.sat_search.specs.Trails.{falses_of, IsStep, AllStuck}
 use Rattle.sat_search.specs.PlainOccurrences.{IsComplete}
 use Rattle.sat_search.specs.PlainPropagation.{Propagates}
-use Rattle.sat_search.specs.Propagation.{Extends}
-use Rattle.sat_search.specs.Analysis.{IsLastLevel}
 use Rattle.sat_search.specs.PlainStates.{IsState, IsAhead}
-use Rattle.sat_search.specs.States.{LevelsAre, EntriesAre, IsStart}
-use Rattle.sat_search.proofs.Lists.{slice_get-push_cases, take_within}
+use Rattle.sat_search.specs.States.{EntriesAre}
 use Rattle.sat_search.proofs.Trails.{open_value, Keeps-push}
 use Rattle.sat_search.proofs.PlainSettling.{IsSettled-push}
-use Rattle.sat_search.proofs.Settling.{cases_Contains}
-use Rattle.sat_search.proofs.Refuting.{no_some}
-use Rattle.sat_search.proofs.Levels.{stuck_refutes_none, some_of, slice_get-append_cases, LevelsAre-none, LevelsAre-extend, LevelsAre-decide, last_level}
+use Rattle.sat_search.proofs.Levels.{LevelsAre-none, LevelsAre-extend, LevelsAre-decide}
 
 -- ---- levels
 

@@ -1,5 +1,5 @@
 -- A pair of watchers more.
-use Rattle.std.proofs.Common.{◌≡◌, ◌≢◌, ◌⊎◌, ◌∙◌, ℕ, ◌≤◌, List, [], ◌∷◌, ◌++◌, length, arith, refl, sym, ap, subst, inl, inr, Vec}
+use Rattle.std.proofs.Common.{◌≡◌, ◌≢◌, ◌⊎◌, ◌∙◌, ℕ, List, [], ◌∷◌, ◌++◌, length, arith, refl, sym, ap, subst, inl, inr, Vec}
 use Rattle.std.specs.declared.alloc.Global.{Global}
 use Rattle.std.specs.List.{Contains}
 use Rattle.std.proofs.lemmas.List.Elements.{Contains-push_cases}
@@ -7,7 +7,7 @@ use Rattle.sat_check.specs.declared.clause.Lit.{Lit}
 use Rattle.sat_search.specs.declared.watches.Watcher.{Watcher}
 use Rattle.sat_search.specs.declared.watches.Pair.{Pair}
 use Rattle.sat_search.specs.declared.watches.Watches.{Watches}
-use Rattle.sat_search.specs.Watches.{watchers_of, IsWritten, IsListed, WatchesMore}
+use Rattle.sat_search.specs.Watches.{watchers_of, IsWritten, IsListed, ListsMore, WatchesMore}
 use Rattle.sat_search.proofs.Lists.{slice_get-push}
 use Rattle.sat_search.proofs.Settling.{cases_lit}
 use Rattle.sat_search.proofs.Looking.{IsListed-push}
@@ -36,16 +36,14 @@ module _ (old new : Watches) (lit : Lit) (watcher : Watcher) (written : IsWritte
         | inr differs ↦ inl (subst (λ (m : List Watcher). Contains m x) (written.others l differs) h)
       ]
 
-pub WatchesMore-both :
-    (old mid new : Watches) (pairs : Vec Pair Global) (index : ℕ) (pair : Pair) → pair.first ≢ pair.second
+pub ListsMore-both :
+    (old mid new : Watches) (index : ℕ) (pair : Pair) → pair.first ≢ pair.second
     → IsWritten old mid pair.first (watchers_of old pair.first ++ (record { index = index; blocker = pair.second }) ∷ [])
-    → IsWritten mid new pair.second (watchers_of mid pair.second ++ (record { index = index; blocker = pair.first }) ∷ [])
-    → pairs.items ≡ new.pairs.items ++ pair ∷ [] → WatchesMore old (record { positive = new.positive; negative = new.negative; pairs = pairs }) index pair
-WatchesMore-both old mid new pairs index pair apart first second is =
+    → IsWritten mid new pair.second (watchers_of mid pair.second ++ (record { index = index; blocker = pair.first }) ∷ []) → ListsMore old new index pair
+ListsMore-both old mid new index pair apart first second =
     let a : Watcher = record { index = index; blocker = pair.second } in
     let b : Watcher = record { index = index; blocker = pair.first } in
     record {
-      pairs = is ∙ ap (λ (l : List Pair). l ++ pair ∷ []) (second.pairs ∙ first.pairs);
       kept = λ lit n listed. push-kept mid new pair.second b second lit n (push-kept old mid pair.first a first lit n listed);
       first_listed = λ _. push-kept mid new pair.second b second pair.first index (push-own old mid pair.first a first);
       second_listed = λ _. push-own mid new pair.second b second;
@@ -60,12 +58,9 @@ WatchesMore-both old mid new pairs index pair apart first second is =
       negative_len = second.negative_len ∙ first.negative_len;
     }
 
-pub WatchesMore-none :
-    (old : Watches) (pairs : Vec Pair Global) (index : ℕ) (pair : Pair) → pair.first ≡ pair.second → pairs.items ≡ old.pairs.items ++ pair ∷ []
-    → WatchesMore old (record { positive = old.positive; negative = old.negative; pairs = pairs }) index pair
-WatchesMore-none old pairs index pair same is =
+pub ListsMore-none : (old : Watches) (index : ℕ) (pair : Pair) → pair.first ≡ pair.second → ListsMore old old index pair
+ListsMore-none old index pair same =
     record {
-      pairs = is;
       kept = λ lit n listed. listed;
       first_listed = λ apart. absurd (apart same);
       second_listed = λ apart. absurd (apart same);
@@ -73,3 +68,21 @@ WatchesMore-none old pairs index pair same is =
       positive_len = refl;
       negative_len = refl;
     }
+
+-- the pairs are of no account
+pub ListsMore-pairs :
+    (old new : Watches) (pairs : Vec Pair Global) (index : ℕ) (pair : Pair) → ListsMore old new index pair → ListsMore old (record { positive = new.positive; negative = new.negative; pairs = pairs }) index pair
+ListsMore-pairs old new pairs index pair lists =
+    record {
+      kept = λ lit n listed. lists.kept lit n listed;
+      first_listed = λ apart. lists.first_listed apart;
+      second_listed = λ apart. lists.second_listed apart;
+      among = λ lit x h. lists.among lit x h;
+      positive_len = lists.positive_len;
+      negative_len = lists.negative_len;
+    }
+
+pub WatchesMore-none :
+    (old : Watches) (pairs : Vec Pair Global) (index : ℕ) (pair : Pair) → pair.first ≡ pair.second → pairs.items ≡ old.pairs.items ++ pair ∷ []
+    → WatchesMore old (record { positive = old.positive; negative = old.negative; pairs = pairs }) index pair
+WatchesMore-none old pairs index pair same is = record { pairs = is; lists = ListsMore-pairs old old pairs index pair (ListsMore-none old index pair same) }

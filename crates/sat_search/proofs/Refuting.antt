@@ -1,23 +1,18 @@
 -- Places of a trail, and hints that refute.
-use Rattle.std.proofs.Common.{◌≡◌, ◌⊎◌, ◌∙◌, ℕ, ◌+◌, ◌-◌, ◌<◌, ◌≤◌, Bool, true, false, List, [], ◌∷◌, ◌++◌, Option, Some, None, length, set, get_or, take, reverse, arith, sym, ap, subst, inl, inr}
+use Rattle.std.proofs.Common.{◌≡◌, ℕ, ◌<◌, List, [], ◌∷◌, Option, Some, None, length, take, sym, subst, inl, inr}
 use Rattle.std.specs.Option.{IsSome}
-use Rattle.std.specs.List.{All, slice_get, Contains}
-use Rattle.std.proofs.lemmas.Bool.{cases_eq, cases_order, false≢true}
-use Rattle.std.proofs.lemmas.Option.{same_Some, none-some, slice_get_within}
-use Rattle.std.proofs.lemmas.List.{reverse-append}
-use Rattle.std.proofs.lemmas.List.Elements.{All-push, Contains-push, Contains-append_left, Contains-push_cases}
+use Rattle.std.specs.List.{slice_get, Contains}
+use Rattle.std.proofs.lemmas.Bool.{cases_order, false≢true}
+use Rattle.std.proofs.lemmas.Option.{none-some}
 use Rattle.sat_check.specs.declared.clause.Lit.{Lit}
 use Rattle.sat_check.specs.declared.clause.Clause.{Clause}
 use Rattle.sat_check.specs.Clauses.{opposite_of}
-use Rattle.sat_check.specs.Logs.{HasNoValue, IsUnit, Refutes}
-use Rattle.sat_check.proofs.Lists.{same_lit, cases_sign, opposite-opposite, Contains-nil, Contains-there, Contains-here, Contains-cons_cases, slice_get-set_same, slice_get-set_other}
+use Rattle.sat_check.specs.Logs.{IsUnit, Refutes}
+use Rattle.sat_check.proofs.Lists.{same_lit, cases_sign, opposite-opposite}
 use Rattle.sat_search.specs.declared.trail.Slot.{Slot}
 use Rattle.sat_search.specs.declared.trail.Step.{Step}
 use Rattle.sat_search.specs.Trails.{falses_of, Keeps}
-use Rattle.sat_search.specs.PlainAnalysis.{Walked, Learns}
-use Rattle.sat_search.specs.Analysis.{AllMarked, IsLastLevel}
-use Rattle.sat_search.proofs.Trails.{shown_once}
-use Rattle.sat_search.proofs.Places.{place_of, false_at, false_before, false_by}
+use Rattle.sat_search.proofs.Places.{place_of, false_by}
 
 -- a step and an earlier one have different variables
 pub earlier_apart :

@@ -1,11 +1,11 @@
 -- Literals, clauses and trails that grow.
-use Rattle.std.proofs.Common.{◌≡◌, ◌⊎◌, ◌∙◌, ℕ, ◌+◌, ◌<◌, ◌≤◌, true, false, List, [], ◌∷◌, ◌++◌, Some, None, length, set, arith, refl, sym, ap, subst, inl, inr, append_assoc, append-nil}
+use Rattle.std.proofs.Common.{◌≡◌, ◌⊎◌, ◌∙◌, ℕ, ◌<◌, ◌≤◌, List, [], ◌∷◌, ◌++◌, Some, length, arith, sym, ap, subst, inl, inr, append_assoc, append-nil}
 use Rattle.std.specs.Option.{IsSome}
 use Rattle.std.specs.List.{slice_get, Contains}
-use Rattle.std.proofs.lemmas.Bool.{cases_eq, false≢true}
-use Rattle.std.proofs.lemmas.Option.{same_Some, slice_get_within}
-use Rattle.std.proofs.lemmas.List.{length-append, map_push}
-use Rattle.std.proofs.lemmas.List.Elements.{All-nil, All-cons, All-append, Contains-push, Contains-append_left, Contains-push_cases, Contains-get_or}
+use Rattle.std.proofs.lemmas.Bool.{cases_eq}
+use Rattle.std.proofs.lemmas.Option.{same_Some}
+use Rattle.std.proofs.lemmas.List.{length-append}
+use Rattle.std.proofs.lemmas.List.Elements.{All-nil, All-append, Contains-push, Contains-push_cases}
 use Rattle.sat_check.specs.declared.clause.Lit.{Lit}
 use Rattle.sat_check.specs.declared.clause.Clause.{Clause}
 use Rattle.sat_check.specs.Clauses.{opposite_of}
@@ -14,11 +14,8 @@ use Rattle.sat_check.proofs.Lists.{same_lit, not-same, cases_sign, opposite-oppo
 use Rattle.sat_check.proofs.Walks.{Neither-true}
 use Rattle.sat_search.specs.declared.trail.Slot.{Slot}
 use Rattle.sat_search.specs.declared.trail.Step.{Step}
-use Rattle.sat_search.specs.Trails.{falses_of, IsStep, Keeps, IsStuck, AllStuck}
-use Rattle.sat_search.specs.PlainPropagation.{IsSettled, AllSettled, Visits, VisitsAll}
+use Rattle.sat_search.specs.Trails.{IsStep, Keeps, IsStuck}
 use Rattle.sat_search.specs.Propagation.{Extends}
-use Rattle.sat_search.proofs.Trails.{Keeps-push, falses-push}
-use Rattle.sat_search.proofs.Lists.{slice_get-append_left, slice_get-push}
 
 pub cases_lit : (a b : Lit) → (a ≡ b) ⊎ (a ≡ b → ⊥)
 cases_lit a b =

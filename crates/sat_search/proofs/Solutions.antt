@@ -1,6 +1,6 @@
 -- Where every variable has a value and every clause is stuck, the values satisfy the clauses.
-use Rattle.std.proofs.Common.{◌≡◌, ◌⊎◌, ◌∙◌, ℕ, ◌<◌, Bool, true, false, not, List, [], ◌∷◌, Some, length, map, get_or, arith, refl, ap, subst, inl, inr}
-use Rattle.std.specs.List.{All, slice_get, Contains}
+use Rattle.std.proofs.Common.{◌≡◌, ◌⊎◌, ◌∙◌, ℕ, ◌<◌, Bool, true, false, not, List, [], ◌∷◌, length, get_or, arith, refl, ap, subst, inl, inr}
+use Rattle.std.specs.List.{All, Contains}
 use Rattle.std.proofs.lemmas.Option.{slice_get-get_or, get_or_from_slice_get}
 use Rattle.std.proofs.lemmas.List.{length-map, get_or-map}
 use Rattle.std.proofs.lemmas.List.Elements.{All-cons, All-contains}
@@ -14,7 +14,6 @@ use Rattle.sat_search.specs.declared.trail.Slot.{Slot}
 use Rattle.sat_search.specs.declared.trail.Step.{Step}
 use Rattle.sat_search.specs.Trails.{falses_of, Keeps, IsStuck, AllStuck, values_of}
 use Rattle.sat_search.specs.Searches.{IsSolution}
-use Rattle.sat_search.proofs.Lists.{slice_get-append_left}
 use Rattle.sat_search.proofs.Trails.{told_false}
 use Rattle.sat_search.proofs.Settling.{cases_Contains}
 
@@ -33,7 +32,7 @@ cases_false falses (lit ∷ lits) =
 
 pub solution :
     (variables : ℕ) (clauses : List Clause) (entries : List Entry) (slots : List Slot) (steps : List Step) → length slots ≡ variables → ClausesAreBelow variables clauses
-    → Keeps (known_before clauses entries) slots steps → All (λ slot. slot.assigned ≡ true) slots → AllStuck (known_before clauses entries) (falses_of steps)
+    → Keeps (known_before clauses entries) slots steps → All (λ slot. slot.assigned ≡ true) slots → AllStuck clauses (falses_of steps)
     → IsSolution variables clauses (values_of slots)
 solution variables clauses entries slots steps len below keeps assigned stuck =
     let value : Slot → Bool = λ slot. not slot.positive in
@@ -41,9 +40,7 @@ solution variables clauses entries slots steps len below keeps assigned stuck =
       all = length-map slots value ∙ len;
       satisfies = λ index d within.
           let clause = get_or clauses index d in
-          let named : slice_get (known_before clauses entries) index ≡ Some clause =
-          slice_get-append_left clauses (map (λ (e : Entry). e.clause) entries) index clause (slice_get-get_or clauses index d within) in
-          let is : IsStuck (falses_of steps) clause.lits = stuck index clause named in
+          let is : IsStuck (falses_of steps) clause.lits = stuck index clause (slice_get-get_or clauses index d within) in
           elim (cases_false (falses_of steps) clause.lits) [
             | inl all ↦ absurd (is.not_false all)
             | inr some ↦

@@ -1,13 +1,12 @@
 -- Lists of watchers, one for each literal.
-use Rattle.std.proofs.Common.{◌≡◌, ◌⊎◌, ◌∙◌, ◌≢◌, ℕ, zero, suc, ◌+◌, ◌-◌, ◌<◌, ◌≤◌, Bool, true, false, List, [], ◌∷◌, ◌++◌, Some, length, set, get_or, take, arith, refl, sym, ap, subst, inl, inr, Vec}
+use Rattle.std.proofs.Common.{◌≡◌, ◌∙◌, ◌≢◌, ℕ, zero, suc, ◌-◌, ◌<◌, ◌≤◌, true, false, List, [], ◌∷◌, ◌++◌, Some, length, set, get_or, take, arith, refl, sym, ap, subst, inl, inr, Vec}
 use Rattle.std.specs.declared.alloc.Global.{Global}
 use Rattle.std.specs.List.{Contains, slice_get, swap_remove}
-use Rattle.std.proofs.lemmas.Bool.{cases_eq, cases_Bool, false≢true}
+use Rattle.std.proofs.lemmas.Bool.{cases_eq, cases_Bool}
 use Rattle.std.proofs.lemmas.Option.{slice_get_within, slice_get-get_or, get_or_from_slice_get, same_Some, none-some}
-use Rattle.std.proofs.lemmas.List.{length-set, length-append}
+use Rattle.std.proofs.lemmas.List.{length-set}
 use Rattle.sat_check.specs.declared.clause.Lit.{Lit}
-use Rattle.sat_check.specs.declared.clause.Clause.{Clause}
-use Rattle.sat_check.proofs.Lists.{same_lit, Contains-at, slice_get-set_same, slice_get-set_other}
+use Rattle.sat_check.proofs.Lists.{same_lit, Contains-at}
 use Rattle.sat_search.specs.declared.watches.Watcher.{Watcher}
 use Rattle.sat_search.specs.declared.watches.Watches.{Watches}
 use Rattle.sat_search.specs.Watches.{list_at, watchers_of, IsWrittenAt, IsWritten}

@@ -1,11 +1,8 @@
 -- How a conflict is gone over.
-use Rattle.std.specs.Prelude.{◌≡◌, ℕ, ◌-◌, ◌<◌, ◌≤◌, ◌⊎◌, Bool, true, List, reverse, take, slice_get, Some, None, IsSome}
-use Rattle.std.specs.List.{All, Contains}
+use Rattle.std.specs.Prelude.{◌≡◌, ℕ, ◌<◌, Bool, true, List, slice_get, Some, IsSome}
+use Rattle.std.specs.List.{All}
 use Rattle.sat_check.specs.declared.clause.Lit.{Lit}
-use Rattle.sat_check.specs.declared.clause.Clause.{Clause}
-use Rattle.sat_check.specs.Logs.{Refutes}
 use Rattle.sat_search.specs.declared.trail.Step.{Step}
-use Rattle.sat_search.specs.Trails.{falses_of}
 
 abbrev pub AllMarked : List Bool → List Lit → Type 0
 AllMarked marks lits = All (λ lit. slice_get marks lit.variable ≡ Some true) lits

@@ -4,8 +4,9 @@ use Rattle.std.specs.List.{All, Contains}
 use Rattle.sat_check.specs.declared.clause.Lit.{Lit}
 use Rattle.sat_check.specs.declared.clause.Clause.{Clause}
 use Rattle.sat_check.specs.Clauses.{opposite_of}
-use Rattle.sat_check.specs.Logs.{IsUnit, HasNoValue, known_before}
+use Rattle.sat_check.specs.Logs.{IsUnit, known_before}
 use Rattle.sat_search.specs.declared.placed.PlacedTrail.{PlacedTrail}
+use Rattle.sat_search.specs.declared.watches.Pair.{Pair}
 use Rattle.sat_search.specs.declared.watches.Watches.{Watches}
 use Rattle.sat_search.specs.declared.beginning.Standing.{Standing}
 use Rattle.sat_search.specs.declared.beginning.Standing.TheVariants.{AllFalse, Single, True, Open}
@@ -32,12 +33,17 @@ StandingIsBelow variables (Single lit) = lit.variable < variables
 StandingIsBelow variables (True lit) = lit.variable < variables
 StandingIsBelow variables (Open first second) = (first.variable < variables) × (second.variable < variables)
 
+-- no clause was set aside
+abbrev pub NoneIsAside : List Pair → Type 0
+NoneIsAside pairs = All (λ pair. pair.aside ≡ false) pairs
+
 -- what a look at the next clause does
 pub record IsAdded (clauses : List Clause) (old_trail new_trail : PlacedTrail) (old new : Watches) (index : ℕ) (conflict : Bool) : Type 0 where
   pub len : length new_trail.trail.slots.items ≡ length old_trail.trail.slots.items
   pub trail : IsTrail (known_before clauses []) new_trail
   pub extends : Extends old_trail.trail.steps.items new_trail.trail.steps.items
   pub watched : AreWatched (length new_trail.trail.slots.items) (take (index + 1) clauses) new
+  pub none_aside : NoneIsAside old.pairs.items → NoneIsAside new.pairs.items
   pub found : conflict ≡ true → IsConflict (known_before clauses []) (falses_of new_trail.trail.steps.items) index
   pub guarded : conflict ≡ false → AllGuarded (take index clauses) old.pairs.items (falses_of old_trail.trail.steps.items) [] → AllGuarded (take (index + 1) clauses) new.pairs.items (falses_of new_trail.trail.steps.items) []
 
@@ -47,6 +53,7 @@ pub record AreAdded (clauses : List Clause) (old_trail new_trail : PlacedTrail) 
   pub trail : IsTrail (known_before clauses []) new_trail
   pub extends : Extends old_trail.trail.steps.items new_trail.trail.steps.items
   pub watched : AreWatched (length new_trail.trail.slots.items) (known_before clauses []) new
+  pub none_aside : NoneIsAside new.pairs.items
   pub found : (index : ℕ) → conflict ≡ Some index → IsConflict (known_before clauses []) (falses_of new_trail.trail.steps.items) index
   pub guarded : conflict ≡ None → AllGuarded (known_before clauses []) new.pairs.items (falses_of new_trail.trail.steps.items) []
 
@@ -56,5 +63,6 @@ pub record HasBegun (clauses : List Clause) (old_trail new_trail : PlacedTrail) 
   pub trail : IsTrail (known_before clauses []) new_trail
   pub extends : Extends [] new_trail.trail.steps.items
   pub watched : AreWatched (length new_trail.trail.slots.items) (known_before clauses []) new
+  pub none_aside : NoneIsAside new.pairs.items
   pub found : (index : ℕ) → conflict ≡ Some index → IsConflict (known_before clauses []) (falses_of new_trail.trail.steps.items) index
   pub guarded : conflict ≡ None → AllGuarded (known_before clauses []) new.pairs.items (falses_of new_trail.trail.steps.items) (falses_of new_trail.trail.steps.items)

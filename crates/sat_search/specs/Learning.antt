@@ -1,6 +1,6 @@
 -- What a conflict teaches: a clause that follows, and the hints by which it does.
-use Rattle.std.specs.Prelude.{◌≡◌, ℕ, ◌-◌, ◌<◌, ◌≤◌, ◌⊎◌, List, take, slice_get, Option, Some, None, IsSome}
-use Rattle.std.specs.List.{All, Contains}
+use Rattle.std.specs.Prelude.{◌≡◌, ℕ, ◌-◌, ◌<◌, ◌≤◌, ◌⊎◌, List, take, slice_get, Option, Some, IsSome}
+use Rattle.std.specs.List.{Contains}
 use Rattle.sat_check.specs.declared.clause.Lit.{Lit}
 use Rattle.sat_check.specs.declared.clause.Clause.{Clause}
 use Rattle.sat_check.specs.Logs.{Refutes}

@@ -4,6 +4,7 @@ pub mod Propagation
 pub mod States
 pub mod Analysis
 pub mod Watches
+pub mod Shelves
 pub mod Looks
 pub mod Learning
 pub mod Marks

@@ -29,7 +29,9 @@ pub record IsLookedAt (watches : Watches) (falsified : Lit) (place index : ℕ) 
 
 -- the clause of that number now watches this literal in place of the one that became false
 pub record IsRewatched (old new : Watches) (falsified : Lit) (place index : ℕ) (other lit : Lit) : Type 0 where
-  pub pairs : new.pairs.items ≡ slice_set old.pairs.items index (record { first = other; second = lit })
+  pub pair : Pair
+  pub paired : slice_get old.pairs.items index ≡ Some pair
+  pub pairs : new.pairs.items ≡ slice_set old.pairs.items index (record { first = other; second = lit; aside = pair.aside })
   pub more : watchers_of new lit ≡ watchers_of old lit ++ (record { index = index; blocker = other }) ∷ []
   pub last : Watcher
   pub fewer : watchers_of new falsified ≡ swap_remove (watchers_of old falsified) place last

@@ -1,12 +1,11 @@
 -- What a conflict teaches: a clause that follows, and the hints by which it does.
-use Rattle.std.specs.Prelude.{◌≡◌, ℕ, ◌-◌, ◌<◌, ◌≤◌, ◌⊎◌, Bool, true, List, reverse, take, slice_get, Some, None, IsSome}
-use Rattle.std.specs.List.{All, Contains}
+use Rattle.std.specs.Prelude.{◌≡◌, ℕ, ◌-◌, ◌<◌, ◌≤◌, ◌⊎◌, Bool, true, List, reverse, take, slice_get, Some, None}
+use Rattle.std.specs.List.{Contains}
 use Rattle.sat_check.specs.declared.clause.Lit.{Lit}
 use Rattle.sat_check.specs.declared.clause.Clause.{Clause}
 use Rattle.sat_check.specs.Logs.{Refutes}
 use Rattle.sat_search.specs.declared.trail.Step.{Step}
 use Rattle.sat_search.specs.Trails.{falses_of}
-use Rattle.sat_search.specs.Analysis.{AllMarked, IsLastLevel}
 
 -- the decision that opened the level became this literal
 abbrev pub IsDecision : List Step → ℕ → Lit → Type 0

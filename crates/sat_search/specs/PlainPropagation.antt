@@ -1,6 +1,6 @@
 -- Propagation: each clause is looked at again once a literal of it has become false.
-use Rattle.std.specs.Prelude.{◌≡◌, ℕ, ◌≤◌, ◌⊎◌, Bool, true, false, List, ◌++◌, length, slice_get, Option, Some, None, IsSome}
-use Rattle.std.specs.List.{All, Contains}
+use Rattle.std.specs.Prelude.{◌≡◌, ℕ, ◌≤◌, ◌⊎◌, Bool, true, false, List, length, slice_get, Option, Some, None}
+use Rattle.std.specs.List.{Contains}
 use Rattle.sat_check.specs.declared.clause.Lit.{Lit}
 use Rattle.sat_check.specs.declared.clause.Clause.{Clause}
 use Rattle.sat_search.specs.declared.trail.Slot.{Slot}

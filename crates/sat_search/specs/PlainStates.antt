@@ -1,19 +1,17 @@
 -- The state of a search.
-use Rattle.std.specs.Prelude.{◌≡◌, ℕ, ◌-◌, ◌<◌, ◌⊎◌, List, [], length, take, slice_get, Option, Some, None}
-use Rattle.std.specs.List.{Contains}
+use Rattle.std.specs.Prelude.{◌≡◌, ℕ, ◌-◌, ◌<◌, List, length, Option, Some, None}
 use Rattle.std.specs.declared.vec.Vec.{Vec}
 use Rattle.std.specs.declared.alloc.Global.{Global}
 use Rattle.sat_check.specs.declared.clause.Clause.{Clause}
 use Rattle.sat_check.specs.declared.log.Entry.{Entry}
-use Rattle.sat_check.specs.Logs.{known_before, AllFollow, AllNew, EntriesAreBelow}
+use Rattle.sat_check.specs.Logs.{known_before}
 use Rattle.sat_search.specs.declared.trail.Slot.{Slot}
 use Rattle.sat_search.specs.declared.trail.Step.{Step}
 use Rattle.sat_search.specs.Trails.{falses_of, Keeps, AllStuck}
 use Rattle.sat_search.specs.PlainOccurrences.{IsComplete}
 use Rattle.sat_search.specs.PlainPropagation.{AllSettled}
 use Rattle.sat_search.specs.Propagation.{IsConflict}
-use Rattle.sat_search.specs.Searches.{IsRefutedByPropagation}
-use Rattle.sat_search.specs.States.{LevelsAre, EntriesAre, IsStart}
+use Rattle.sat_search.specs.States.{LevelsAre, EntriesAre}
 
 pub record IsState (variables : ℕ) (clauses : List Clause) (slots : List Slot) (steps : List Step) (levels : List ℕ) (positive negative : List (Vec ℕ Global)) (entries : List Entry) : Type 0 where
   pub all : length slots ≡ variables

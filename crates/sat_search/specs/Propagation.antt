@@ -1,11 +1,9 @@
 -- What propagation does to a trail.
-use Rattle.std.specs.Prelude.{◌≡◌, ℕ, ◌≤◌, ◌⊎◌, Bool, true, false, List, ◌++◌, length, slice_get, Option, Some, None, IsSome}
+use Rattle.std.specs.Prelude.{◌≡◌, ℕ, List, ◌++◌, slice_get, Some, IsSome}
 use Rattle.std.specs.List.{All, Contains}
 use Rattle.sat_check.specs.declared.clause.Lit.{Lit}
 use Rattle.sat_check.specs.declared.clause.Clause.{Clause}
-use Rattle.sat_search.specs.declared.trail.Slot.{Slot}
 use Rattle.sat_search.specs.declared.trail.Step.{Step}
-use Rattle.sat_search.specs.Trails.{falses_of, Keeps, IsStuck, AllStuck}
 
 -- so many steps more, none of them a decision
 abbrev pub Extends : List Step → List Step → Type 0

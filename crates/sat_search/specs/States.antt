@@ -1,21 +1,19 @@
 -- The state of a search.
-use Rattle.std.specs.Prelude.{◌≡◌, ℕ, ◌-◌, ◌<◌, ◌⊎◌, List, [], length, take, slice_get, Option, Some, None}
+use Rattle.std.specs.Prelude.{◌≡◌, ℕ, ◌-◌, ◌<◌, ◌≤◌, ◌⊎◌, true, List, [], length, take, slice_get, Option, Some, None}
 use Rattle.std.specs.List.{Contains}
-use Rattle.std.specs.declared.vec.Vec.{Vec}
-use Rattle.std.specs.declared.alloc.Global.{Global}
 use Rattle.sat_check.specs.declared.clause.Clause.{Clause}
 use Rattle.sat_check.specs.declared.log.Entry.{Entry}
 use Rattle.sat_check.specs.Logs.{known_before, AllFollow, AllNew, EntriesAreBelow}
-use Rattle.sat_search.specs.declared.trail.Slot.{Slot}
 use Rattle.sat_search.specs.declared.trail.Step.{Step}
-use Rattle.sat_search.specs.Trails.{falses_of, Keeps, AllStuck}
+use Rattle.sat_search.specs.Trails.{falses_of, AllStuck}
 use Rattle.sat_search.specs.declared.placed.PlacedTrail.{PlacedTrail}
+use Rattle.sat_search.specs.declared.watches.Pair.{Pair}
 use Rattle.sat_search.specs.declared.watches.Watches.{Watches}
 use Rattle.sat_search.specs.Watches.{IsTrail, AreWatched, AllGuarded}
 use Rattle.sat_search.specs.Propagation.{IsConflict}
 use Rattle.sat_search.specs.Searches.{IsRefutedByPropagation}
 
--- Each level begins at a decision, and before it every clause was stuck.
+-- Each level begins at a decision, and before it each of the clauses was stuck.
 pub record LevelsAre (known : List Clause) (steps : List Step) (levels : List ℕ) : Type 0 where
   pub within : (level place : ℕ) → slice_get levels level ≡ Some place → place < length steps
   pub stuck : (level place : ℕ) → slice_get levels level ≡ Some place → AllStuck known (falses_of (take place steps))
@@ -38,11 +36,16 @@ abbrev pub AllLevelsGuarded : List Clause → List Step → List ℕ → Watches
 AllLevelsGuarded known steps levels watches =
     (level place : ℕ) → slice_get levels level ≡ Some place → AllGuarded known watches.pairs.items (falses_of (take place steps)) (falses_of (take place steps))
 
+-- none of the clauses was set aside, but entries may have been
+abbrev pub IsFirm : List Clause → List Pair → Type 0
+IsFirm clauses pairs = (index : ℕ) (pair : Pair) → slice_get pairs index ≡ Some pair → pair.aside ≡ true → length clauses ≤ index
+
 pub record IsState (clauses : List Clause) (placed : PlacedTrail) (levels : List ℕ) (watches : Watches) (entries : List Entry) : Type 0 where
   pub trail : IsTrail (known_before clauses entries) placed
-  pub levels_are : LevelsAre (known_before clauses entries) placed.trail.steps.items levels
+  pub levels_are : LevelsAre clauses placed.trail.steps.items levels
   pub watched : AreWatched (length placed.trail.slots.items) (known_before clauses entries) watches
   pub guarded : AllLevelsGuarded (known_before clauses entries) placed.trail.steps.items levels watches
+  pub firm : IsFirm clauses watches.pairs.items
   pub entries_are : EntriesAre (length placed.trail.slots.items) clauses entries
 
 -- propagation found this clause to be false, or no clause, and then all are guarded

@@ -1,8 +1,8 @@
 -- Two watched literals: a clause is looked at again only where one of the two that it watches becomes false.
-use Rattle.std.specs.Prelude.{◌≡◌, ℕ, zero, suc, ◌≤◌, ◌⊎◌, ◌≢◌, List, [], ◌∷◌, ◌++◌, length, map, slice_get, Some, if◌then◌else◌}
+use Rattle.std.specs.Prelude.{◌≡◌, ℕ, zero, suc, ◌≤◌, ◌⊎◌, ◌≢◌, Bool, false, List, [], ◌∷◌, ◌++◌, length, map, slice_get, slice_set, sum_by, Some, if◌then◌else◌}
 use Rattle.std.specs.declared.vec.Vec.{Vec}
 use Rattle.std.specs.declared.alloc.Global.{Global}
-use Rattle.std.specs.List.{All, Contains}
+use Rattle.std.specs.List.{Contains}
 use Rattle.sat_check.specs.declared.clause.Lit.{Lit}
 use Rattle.sat_check.specs.declared.clause.Clause.{Clause}
 use Rattle.sat_check.specs.Clauses.{opposite_of}
@@ -87,18 +87,26 @@ pub record IsFree (falses : List Lit) (pair : Pair) : Type 0 where
 abbrev pub Guards : List Lit → List Lit → Pair → List Lit → Type 0
 Guards falses before pair lits = HasTrue falses lits ⊎ IsFree before pair
 
+-- so is each clause that wasn't set aside
 abbrev pub AllGuarded : List Clause → List Pair → List Lit → List Lit → Type 0
 AllGuarded known pairs falses before =
-    (index : ℕ) (clause : Clause) (pair : Pair) → slice_get known index ≡ Some clause → slice_get pairs index ≡ Some pair → Guards falses before pair clause.lits
+    (index : ℕ) (clause : Clause) (pair : Pair) → slice_get known index ≡ Some clause → slice_get pairs index ≡ Some pair → pair.aside ≡ false → Guards falses before pair clause.lits
 
 -- where neither is so once this literal is taken as false, a look is still due
 abbrev pub AllDue : List Clause → Watches → List Lit → List Lit → Lit → ℕ → Type 0
 AllDue known watches falses before falsified from =
-    (index : ℕ) (clause : Clause) (pair : Pair) → slice_get known index ≡ Some clause → slice_get watches.pairs.items index ≡ Some pair
+    (index : ℕ) (clause : Clause) (pair : Pair) → slice_get known index ≡ Some clause → slice_get watches.pairs.items index ≡ Some pair → pair.aside ≡ false
     → Guards falses (before ++ falsified ∷ []) pair clause.lits ⊎ (Guards falses before pair clause.lits × IsListed (watchers_of watches falsified) from index)
 
 abbrev pub Within : List Lit → List Lit → Type 0
 Within few many = (lit : Lit) → Contains few lit → Contains many lit
+
+-- which clauses were set aside
+abbrev pub flags_of : List Pair → List Bool
+flags_of pairs = map (λ pair. pair.aside) pairs
+
+abbrev pub count_true : List Bool → ℕ
+count_true flags = sum_by (λ flag. if flag then 1 else 0) flags
 
 -- what propagation keeps: also that clauses were guarded at an earlier place of the trail
 pub record Advances (known : List Clause) (old_trail new_trail : PlacedTrail) (old new : Watches) : Type 0 where
@@ -106,14 +114,24 @@ pub record Advances (known : List Clause) (old_trail new_trail : PlacedTrail) (o
   pub trail : IsTrail known new_trail
   pub extends : Extends old_trail.trail.steps.items new_trail.trail.steps.items
   pub watched : AreWatched (length new_trail.trail.slots.items) known new
+  pub flags : flags_of new.pairs.items ≡ flags_of old.pairs.items
   pub cuts : (falses : List Lit) → Within falses (falses_of old_trail.trail.steps.items) → AllGuarded known old.pairs.items falses falses → AllGuarded known new.pairs.items falses falses
 
--- the clause of that number is one more, and watches the pair unless it is one literal
-pub record WatchesMore (old new : Watches) (index : ℕ) (pair : Pair) : Type 0 where
-  pub pairs : new.pairs.items ≡ old.pairs.items ++ pair ∷ []
+-- the clause of that number is also listed under both literals of the pair, unless they are one
+pub record ListsMore (old new : Watches) (index : ℕ) (pair : Pair) : Type 0 where
   pub kept : (lit : Lit) (number : ℕ) → IsListed (watchers_of old lit) 0 number → IsListed (watchers_of new lit) 0 number
   pub first_listed : pair.first ≢ pair.second → IsListed (watchers_of new pair.first) 0 index
   pub second_listed : pair.first ≢ pair.second → IsListed (watchers_of new pair.second) 0 index
   pub among : (lit : Lit) (watcher : Watcher) → Contains (watchers_of new lit) watcher → Contains (watchers_of old lit) watcher ⊎ ((pair.first ≢ pair.second) × (watcher.index ≡ index) × ((watcher.blocker ≡ pair.first) ⊎ (watcher.blocker ≡ pair.second)))
   pub positive_len : length new.positive.items ≡ length old.positive.items
   pub negative_len : length new.negative.items ≡ length old.negative.items
+
+-- the clause of that number is one more, and watches the pair
+pub record WatchesMore (old new : Watches) (index : ℕ) (pair : Pair) : Type 0 where
+  pub pairs : new.pairs.items ≡ old.pairs.items ++ pair ∷ []
+  pub lists : ListsMore old new index pair
+
+-- the clause of that number watches the pair from now on
+pub record IsPut (old new : Watches) (index : ℕ) (pair : Pair) : Type 0 where
+  pub pairs : new.pairs.items ≡ slice_set old.pairs.items index pair
+  pub lists : ListsMore old new index pair

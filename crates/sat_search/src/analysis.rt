@@ -1,6 +1,7 @@
 //! What a conflict teaches: a clause with one literal of the last level, the first by which all
 //! ways of that level lead to the conflict, and the hints by which it follows.
-ghost use Rattle.std.specs.Prelude.{◌≡◌, ℕ, ◌+◌, ◌<◌, ◌≤◌, ◌⊎◌, ◌++◌, length, IfOk, OnOk, IfSome, IsSome, List, Some, true, option_to_list};
+ghost use Rattle.std.specs.Prelude.{◌≡◌, ℕ, ◌+◌, ◌<◌, ◌≤◌, ◌⊎◌, ◌++◌, length, IfOk, OnOk, IfSome, IfNone, IsSome, Some, true, option_to_list, slice_get};
+ghost use Rattle.std.specs.List.{Contains};
 ghost use Rattle.sat_check.specs.Clauses.{ClausesAreBelow};
 ghost use Rattle.sat_check.specs.Logs.{EntriesAreBelow, known_before};
 ghost use Rattle.sat_search.specs.Trails.{falses_of};
@@ -8,9 +9,9 @@ ghost use Rattle.sat_search.specs.Propagation.{IsConflict};
 ghost use Rattle.sat_search.specs.Watches.{IsTrail};
 ghost use Rattle.sat_search.specs.Analysis.{IsLastLevel};
 ghost use Rattle.sat_search.specs.Learning.{Learns, IsBase, IsLate, IsFalseAt, KeepIs};
-ghost use Rattle.sat_search.specs.States.{LevelsAre, IsStart};
 ghost use Rattle.sat_search.specs.Marks.{IsReady};
 ghost use Rattle.sat_check.specs.declared.clause.Lit.{Lit as OneLit};
+ghost use Rattle.sat_search.specs.declared.trail.Step.{Step as OneStep};
 
 use crate::gathering::{Gathering, Levels};
 use crate::placed::PlacedTrail;
@@ -19,8 +20,8 @@ use crate::trail::Trail;
 use sat_check::{Clause, Entry, Hints, Lit, Lits};
 use std::alloc::{AllocError, Global};
 
-/// A clause that follows, its literal of the last level, and how much of the trail before that
-/// level it speaks of.
+/// A clause that follows, its literal of the last level, if it has one, and how much of the trail
+/// before that level it speaks of.
 #[derive(Drop)]
 pub(crate) struct Learned {
     pub(crate) entry: Entry,
@@ -100,7 +101,6 @@ impl Analysis {
         requires trail { IsTrail (known_before clauses.now entries.now) placed.now }
         requires ready { IsReady (length placed.now.trail.slots.items) self.old }
         requires last_level { IsLastLevel placed.now.trail.steps.items levels.start }
-        requires levels { (places : List ℕ) × LevelsAre (known_before clauses.now entries.now) placed.now.trail.steps.items places × IsStart places levels.start }
         requires base { IsBase placed.now.trail.steps.items levels.base }
         requires conflict { IsConflict (known_before clauses.now entries.now) (falses_of placed.now.trail.steps.items) conflict }
         requires clauses_below { ClausesAreBelow (length placed.now.trail.slots.items) clauses.now }
@@ -190,7 +190,6 @@ fn analyze_plainly(
 ) -> Result<Learned, AllocError>
     requires trail { IsTrail (known_before clauses.now entries.now) placed.now }
     requires last_level { IsLastLevel placed.now.trail.steps.items levels.start }
-    requires levels { (places : List ℕ) × LevelsAre (known_before clauses.now entries.now) placed.now.trail.steps.items places × IsStart places levels.start }
     requires base { IsBase placed.now.trail.steps.items levels.base }
     requires conflict { IsConflict (known_before clauses.now entries.now) (falses_of placed.now.trail.steps.items) conflict }
     requires clauses_below { ClausesAreBelow (length placed.now.trail.slots.items) clauses.now }
@@ -207,17 +206,26 @@ fn analyze_plainly(
         levels.start,
         levels.base,
     )?;
-    if entry.clause.lits.is_empty() {
-        return Ok(Learned {
-            entry,
-            asserting: None,
-            keep,
-        });
-    }
-    let asserting = placed.trail.steps[levels.start].falsified;
+    let asserting = decision_among(placed, entry.clause.lits.as_slice(), levels);
     Ok(Learned {
         entry,
-        asserting: Some(asserting),
+        asserting,
         keep,
     })
+}
+
+// The decision of the last level, if the literals have it.
+fn decision_among(placed: &PlacedTrail, lits: &[Lit], levels: Levels) -> Option<Lit>
+    ensures some { IfSome result (λ lit. Contains lits.now lit × IsFalseAt placed.now.trail.steps.items lit levels.start × (levels.base ≤ levels.start)) }
+    ensures none { IfNone result ((step : OneStep) → slice_get placed.now.trail.steps.items levels.start ≡ Some step → levels.base ≤ levels.start → ¬ Contains lits.now step.falsified) }
+{
+    if levels.start < levels.base {
+        return None;
+    }
+    let decision = placed.trail.steps.get(levels.start)?.falsified;
+    if lits.contains(&decision) {
+        Some(decision)
+    } else {
+        None
+    }
 }

@@ -24,7 +24,8 @@ pub(crate) enum Standing {
     Open(Lit, Lit),
 }
 
-fn standing_of(slots: &[Slot], lits: &[Lit]) -> Standing
+/// What the values make of a clause. A literal that is true, or two that have no value, settle it.
+pub(crate) fn standing_of(slots: &[Slot], lits: &[Lit]) -> Standing
     requires { AreBelow (length slots.now) lits.now }
     ensures standing { (falses : List OneLit) → Shows slots.now falses → StandingIs falses lits.now result }
     ensures below { StandingIsBelow (length slots.now) result }
@@ -51,12 +52,13 @@ fn standing_of(slots: &[Slot], lits: &[Lit]) -> Standing
 impl Watches {
     // The clause of that number, which is the next, watches nothing.
     fn skip(&mut self, index: u32, lit: Lit) -> Result<(), AllocError>
-        ensures { OnOk result (WatchesMore self.old self.new index (record { first = lit; second = lit })) }
+        ensures { OnOk result (WatchesMore self.old self.new index (record { first = lit; second = lit; aside = false })) }
     {
         let _ = index;
         self.pairs.push(Pair {
             first: lit,
             second: lit,
+            aside: false,
         })?;
         Ok(())
     }
@@ -90,7 +92,12 @@ impl Watches {
                 Ok(false)
             }
             Standing::Open(first, second) => {
-                self.watch(index, Pair { first, second })?;
+                let pair = Pair {
+                    first,
+                    second,
+                    aside: false,
+                };
+                self.watch(index, pair)?;
                 Ok(false)
             }
         }
@@ -149,7 +156,8 @@ fn first_of(conflict: Option<u32>, is_false: bool, index: u32) -> Option<u32>
     if is_false { Some(index) } else { None }
 }
 
-const NO_LITERAL: Lit = Lit {
+/// A literal for a clause that watches none.
+pub(crate) const NO_LITERAL: Lit = Lit {
     variable: 0,
     positive: false,
 };

@@ -1,6 +1,8 @@
 //! Where a conflict comes from: the literals of the clause that it teaches, and the reasons that
 //! replace the others. Nobody relies on what is found here: `walk` tries it.
+use crate::minimizing::Stop;
 use crate::placed::PlacedTrail;
+use crate::uses::Uses;
 use sat_check::{Clause, Entry, Lit, named};
 use std::alloc::{AllocError, Global};
 
@@ -13,6 +15,10 @@ pub(crate) enum Mark {
     Late,
     /// It got its value on an earlier level, or before any decision.
     Early,
+    /// Its value follows from what has the mark `Early`.
+    Follows,
+    /// Its value doesn't follow from that.
+    Fails,
 }
 
 /// The places at which the last level begins, and the first.
@@ -26,9 +32,11 @@ pub(crate) struct Levels {
 #[derive(Drop)]
 pub(crate) struct Gathering {
     /// For each variable its mark.
-    marks: Vec<Mark>,
-    /// The variables that have a mark.
+    pub(crate) marks: Vec<Mark>,
+    /// The variables that took part in the conflict.
     pub(crate) seen: Vec<u32>,
+    /// The variables that were marked in the tries to do without a literal.
+    pub(crate) tried: Vec<u32>,
     /// The literals of earlier levels that stand in the clause.
     pub(crate) kept: Vec<Lit>,
     /// The literal of the last level that does.
@@ -36,11 +44,15 @@ pub(crate) struct Gathering {
     /// The reasons of what was replaced, oldest step first, and then the conflict.
     pub(crate) reasons: Vec<u32>,
     /// The places of what was replaced.
-    replaced: Vec<usize>,
+    pub(crate) replaced: Vec<usize>,
     /// The places of what got its value before any decision, and is still to be replaced.
-    based: Vec<usize>,
+    pub(crate) based: Vec<usize>,
+    /// The way from a literal that may follow to the one that is looked at.
+    pub(crate) way: Vec<Stop>,
     /// How many literals of the last level are still to be gone over.
     open: usize,
+    /// How much each entry was used.
+    pub(crate) uses: Uses,
 }
 
 impl Gathering {
@@ -49,12 +61,15 @@ impl Gathering {
         Ok(Gathering {
             marks: vec![in alloc; Mark::Unseen; variables as usize]?,
             seen: Vec::new(alloc),
+            tried: Vec::new(alloc),
             kept: Vec::new(alloc),
             asserting: None,
             reasons: Vec::new(alloc),
             replaced: Vec::new(alloc),
             based: Vec::new(alloc),
+            way: Vec::new(alloc),
             open: 0,
+            uses: Uses::new(alloc),
         })
     }
 
@@ -76,17 +91,31 @@ impl Gathering {
         self.replace_based(placed, clauses, entries, levels)?;
         self.list_reasons(placed)?;
         self.reasons.push(conflict)?;
+        self.count(clauses.len(), entries.len())?;
+        Ok(())
+    }
+
+    // Counts the entries among the reasons as used, and the next entry too.
+    fn count(&mut self, clauses: usize, next: usize) -> Result<(), AllocError> {
+        for reason in &self.reasons {
+            if let Some(entry) = (*reason as usize).checked_sub(clauses) {
+                self.uses.bump(entry)?;
+            }
+        }
+        self.uses.bump(next)?;
+        self.uses.decay();
         Ok(())
     }
 
     // Forgets the conflict before.
     fn clear(&mut self) {
-        for variable in &self.seen {
+        for variable in self.seen.iter().chain(&self.tried) {
             if let Some(mark) = self.marks.get_mut(*variable as usize) {
                 *mark = Mark::Unseen;
             }
         }
         self.seen.clear();
+        self.tried.clear();
         self.kept.clear();
         self.asserting = None;
         self.reasons.clear();
@@ -174,51 +203,6 @@ impl Gathering {
         Ok(())
     }
 
-    // Replaces what follows from the literals that stay.
-    fn minimize(
-        &mut self,
-        placed: &PlacedTrail,
-        clauses: &[Clause],
-        entries: &[Entry],
-        levels: Levels,
-    ) -> Result<(), AllocError> {
-        for index in (0..self.kept.len()).rev() {
-            let Some(lit) = self.kept.get(index) else {
-                return Ok(());
-            };
-            let Some(place) = placed.places.get(lit.variable as usize) else {
-                return Ok(());
-            };
-            if self.is_needless(placed, clauses, entries, *place, levels) {
-                let _lit = self.kept.swap_remove(index);
-                self.replace(placed, clauses, entries, *place, levels)?;
-            }
-        }
-        Ok(())
-    }
-
-    // Whether each literal of the step's reason is marked, or was false before any decision.
-    fn is_needless(
-        &self,
-        placed: &PlacedTrail,
-        clauses: &[Clause],
-        entries: &[Entry],
-        place: usize,
-        levels: Levels,
-    ) -> bool {
-        let Some(lits) = reason_of(placed, clauses, entries, place) else {
-            return false;
-        };
-        for lit in lits {
-            if self.mark_of(lit.variable) == Mark::Unseen
-                && !is_before(placed, lit.variable, levels.base)
-            {
-                return false;
-            }
-        }
-        true
-    }
-
     // Replaces what got its value before any decision. No place comes twice.
     fn replace_based(
         &mut self,
@@ -249,7 +233,8 @@ impl Gathering {
         Ok(())
     }
 
-    fn mark_of(&self, variable: u32) -> Mark {
+    /// The mark of a variable.
+    pub(crate) fn mark_of(&self, variable: u32) -> Mark {
         match self.marks.get(variable as usize) {
             Some(mark) => *mark,
             None => Mark::Unseen,
@@ -257,16 +242,16 @@ impl Gathering {
     }
 }
 
-// Whether a variable got its value before that place.
-fn is_before(placed: &PlacedTrail, variable: u32, base: usize) -> bool {
+/// Whether a variable got its value before that place.
+pub(crate) fn is_before(placed: &PlacedTrail, variable: u32, base: usize) -> bool {
     match placed.places.get(variable as usize) {
         Some(place) => *place < base,
         None => false,
     }
 }
 
-// The literals of the clause that made a step, if it isn't a decision.
-fn reason_of<'a>(
+/// The literals of the clause that made a step, if it isn't a decision.
+pub(crate) fn reason_of<'a>(
     placed: &PlacedTrail,
     clauses: &'a [Clause],
     entries: &'a [Entry],

@@ -5,13 +5,17 @@
 //! only at the clauses that watch what became false, the variables of what was learned lately are
 //! decided first, and from time to time all decisions are taken back (Moskewicz, Madigan, Zhao,
 //! Zhang and Malik, "Chaff", 2001). What it learns is an entry of a log that `sat_check` follows,
-//! so nobody has to trust the search. `plain_search` is the same without all this.
+//! so nobody has to trust the search. Entries of little use are set aside: propagation leaves them
+//! out, and a new entry is compared with them, so that none is learned twice (`shelf`, `asides`).
+//! `plain_search` is the same without all this.
 #![tactic(auto)]
 
 mod analysis;
+mod asides;
 mod beginning;
 mod found;
 mod gathering;
+mod minimizing;
 mod order;
 mod placed;
 mod plain;
@@ -19,8 +23,11 @@ mod propagation;
 mod restarts;
 mod running;
 mod searching;
+mod shelf;
 mod solver;
+mod stock;
 mod trail;
+mod uses;
 mod walk;
 mod watches;
 

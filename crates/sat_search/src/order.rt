@@ -4,31 +4,48 @@ ghost use Rattle.std.specs.List.{All};
 
 use std::alloc::{AllocError, Global};
 
+/// A variable with its activity.
+#[derive(Clone, Copy)]
+struct Node {
+    activity: u32,
+    variable: u32,
+}
+
 /// A binary heap of variables by their activities, the greatest first, with the place of each
-/// variable in it.
+/// variable in it; and how many decisions and conflicts there were.
 #[derive(Drop)]
 pub(crate) struct Order {
-    activities: Vec<u64>,
-    places: Vec<Option<usize>>,
-    heap: Vec<u32>,
-    increment: u64,
-    ghost heap_below: { All (λ variable. variable < length activities.items) heap.items },
+    activities: Vec<u32>,
+    places: Vec<u32>,
+    heap: Vec<Node>,
+    increment: u32,
+    decisions: u64,
+    conflicts: u64,
+    ghost heap_below: { All (λ node. node.variable < length activities.items) heap.items },
     ghost places_len: { length places.items ≡ length activities.items },
 }
 
 // At this activity all are made smaller, in proportion.
-const LIMIT: u64 = 1 << 60;
+const LIMIT: u32 = 1 << 31;
 
-const SMALLER: u32 = 30;
+const SMALLER: u32 = 20;
+
+// The place of a variable that isn't in the heap.
+const ABSENT: u32 = u32::MAX;
+
+// So many decisions for each conflict are few.
+const FEW: u64 = 4;
 
 impl Order {
     /// All variables, none of which took part in a conflict.
     pub(crate) fn new(alloc: Global, variables: u32) -> Result<Order, AllocError> {
         let mut order = Order {
             activities: vec![in alloc; 0; variables as usize]?,
-            places: vec![in alloc; None; variables as usize]?,
+            places: vec![in alloc; ABSENT; variables as usize]?,
             heap: Vec::with_capacity(alloc, variables as usize)?,
-            increment: 1 << 20,
+            increment: 1 << 10,
+            decisions: 0,
+            conflicts: 0,
         };
         for variable in 0..variables {
             order.insert(variable)?;
@@ -39,12 +56,12 @@ impl Order {
     /// Puts a variable back, unless it is there.
     pub(crate) fn insert(&mut self, variable: u32) -> Result<(), AllocError> {
         let index = variable as usize;
-        if index >= self.places.len() || self.places[index].is_some() {
+        if index >= self.places.len() || self.places[index] != ABSENT {
             return Ok(());
         }
         let place = self.heap.len();
-        self.places[index] = Some(place);
-        self.heap.push(variable)?;
+        let activity = self.activities[index];
+        self.heap.push(Node { activity, variable })?;
         self.rise(place);
         Ok(())
     }
@@ -56,10 +73,8 @@ impl Order {
         if self.heap.is_empty() {
             return None;
         }
-        let last = self.heap.len() - 1;
-        self.swap(0, last);
-        let variable = self.heap.pop()?;
-        self.places[variable as usize] = None;
+        let variable = self.heap.swap_remove(0).variable;
+        self.places[variable as usize] = ABSENT;
         if !self.heap.is_empty() {
             self.sink(0);
         }
@@ -72,27 +87,40 @@ impl Order {
         if index >= self.activities.len() {
             return;
         }
-        let place = self.places[index];
         let activity = self.activities[index].saturating_add(self.increment);
         self.activities[index] = activity;
+        let place = self.places[index] as usize;
+        if place < self.heap.len() {
+            self.heap[place].activity = activity;
+            self.rise(place);
+        }
         if activity > LIMIT {
             self.scale();
         }
-        if let Some(place) = place {
-            if place < self.heap.len() {
-                self.rise(place);
-            }
-        }
     }
 
-    /// What took part in earlier conflicts counts for less from now on.
+    /// A variable was decided.
+    pub(crate) fn count_decision(&mut self) {
+        self.decisions = self.decisions.saturating_add(1);
+    }
+
+    /// Whether there were few decisions for each conflict.
+    pub(crate) fn has_few_decisions(&self) -> bool {
+        self.decisions / FEW < self.conflicts
+    }
+
+    /// One conflict more: what took part in earlier ones counts for less from now on.
     pub(crate) fn decay(&mut self) {
-        self.increment = self.increment.saturating_add(self.increment / 16);
+        self.increment = self.increment.saturating_add(self.increment / 20);
+        self.conflicts = self.conflicts.saturating_add(1);
     }
 
     fn scale(&mut self) {
         for activity in self.activities.iter_mut() {
             *activity >>= SMALLER;
+        }
+        for place in 0..self.heap.len() {
+            self.heap[place].activity >>= SMALLER;
         }
         self.increment >>= SMALLER;
         if self.increment == 0 {
@@ -100,49 +128,58 @@ impl Order {
         }
     }
 
-    fn activity_at(&self, place: usize) -> u64
-        requires { place < length self.now.heap.items }
+    // The node stands at that place.
+    fn put(&mut self, place: usize, node: Node)
+        requires place { place < length self.old.heap.items }
+        requires variable { node.variable < length self.old.activities.items }
+        ensures heap { length self.new.heap.items ≡ length self.old.heap.items }
+        ensures activities { self.new.activities ≡ self.old.activities }
     {
-        self.activities[self.heap[place] as usize]
+        self.heap[place] = node;
+        self.places[node.variable as usize] = match u32::try_from(place) {
+            Ok(place) => place,
+            Err(_) => ABSENT,
+        };
     }
 
-    fn swap(&mut self, a: usize, b: usize)
-        requires a { a < length self.old.heap.items }
-        requires b { b < length self.old.heap.items }
-        ensures { length self.new.heap.items ≡ length self.old.heap.items }
-    {
-        let first = self.heap[a];
-        let second = self.heap[b];
-        self.heap[a] = second;
-        self.heap[b] = first;
-        self.places[second as usize] = Some(a);
-        self.places[first as usize] = Some(b);
-    }
-
+    // Lets the variable at that place change places with those above it that are less active.
     fn rise(&mut self, mut place: usize)
         requires { place < length self.old.heap.items }
         ensures { length self.new.heap.items ≡ length self.old.heap.items }
     {
-        while place > 0 {
-            let parent = (place - 1) / 2;
-            if self.activity_at(place) <= self.activity_at(parent) {
-                return;
-            }
-            self.swap(place, parent);
-            place = parent;
+        let node = self.heap[place];
+        while place > 0 && self.heap[(place - 1) / 2].activity < node.activity {
+            let above = self.heap[(place - 1) / 2];
+            self.put(place, above);
+            place = (place - 1) / 2;
         }
+        self.put(place, node);
     }
 
+    // Lets the variable at that place change places with those below it that are more active.
     fn sink(&mut self, mut place: usize)
         requires { place < length self.old.heap.items }
         ensures { length self.new.heap.items ≡ length self.old.heap.items }
     {
-        while let Some(child) = self.greater_child(place) {
-            if self.activity_at(child) <= self.activity_at(place) {
-                return;
-            }
-            self.swap(place, child);
+        let node = self.heap[place];
+        while let Some(child) = self.child_above(place, node.activity) {
+            let below = self.heap[child];
+            self.put(place, below);
             place = child;
+        }
+        self.put(place, node);
+    }
+
+    // The child of the greater activity, if that is above this one.
+    fn child_above(&self, place: usize, activity: u32) -> Option<usize>
+        requires { place < length self.now.heap.items }
+        ensures { IfSome result (λ child. (place < child) × (child < length self.now.heap.items)) }
+    {
+        let child = self.greater_child(place)?;
+        if self.heap[child].activity > activity {
+            Some(child)
+        } else {
+            None
         }
     }
 
@@ -156,7 +193,7 @@ impl Order {
             return None;
         }
         let right = left + 1;
-        if right < self.heap.len() && self.activity_at(right) > self.activity_at(left) {
+        if right < self.heap.len() && self.heap[right].activity > self.heap[left].activity {
             Some(right)
         } else {
             Some(left)

@@ -99,6 +99,7 @@ impl Watches {
             return Ok(Look::Leaves);
         };
         if is_true(placed.trail.slots.as_slice(), other) {
+            self.block(falsified, place, other);
             return Ok(Look::Stays);
         }
         let look = self.look_on(
@@ -173,9 +174,11 @@ impl Watches {
             },
         )?;
         self.remove(falsified, place);
+        let aside = self.pairs[index as usize].aside;
         self.pairs[index as usize] = Pair {
             first: other,
             second: lit,
+            aside,
         };
         Ok(())
     }

@@ -9,9 +9,8 @@ pub(crate) struct Restarts {
     length: u64,
 }
 
-// The first length of the sequence. Since all that is learned is kept, taking decisions back gains
-// less than where the search forgets.
-const UNIT: u64 = 4096;
+// The first length of the sequence.
+const UNIT: u64 = 2048;
 
 impl Restarts {
     pub(crate) fn new() -> Restarts {

@@ -41,14 +41,15 @@ impl Solver {
         requires below { ClausesAreBelow (length self.old.placed.trail.slots.items) clauses.now }
         requires within { length self.old.entries ≤ conflicts }
         ensures len { OnOk result (length self.new.placed.trail.slots.items ≡ length self.old.placed.trail.slots.items) }
-        ensures turn { IfOk result (TurnIs clauses.now conflicts (left_of conflicts self.old) self.new) }
+        ensures turn { IfOk result (TurnIs clauses.now conflicts (left_of clauses.now conflicts self.old) self.new) }
     {
         if self.entries.len() as u64 >= conflicts {
             return Ok(Turn::Ends(Ending::Spent));
         }
         match self.learn(alloc, clauses, index)? {
             Learning::Refuted => Ok(Turn::Ends(Ending::Refuted)),
-            Learning::Restarted => Ok(Turn::Goes(None)),
+            Learning::Cleared => Ok(Turn::Goes(None)),
+            Learning::Conflict(index) => Ok(Turn::Goes(Some(index))),
             Learning::Asserted => {
                 let next = self.propagate(clauses)?;
                 Ok(Turn::Goes(next))
@@ -64,7 +65,7 @@ impl Solver {
         requires few { length self.old.placed.trail.slots.items < 2 ^ 32 }
         requires within { length self.old.entries ≤ conflicts }
         ensures len { OnOk result (length self.new.placed.trail.slots.items ≡ length self.old.placed.trail.slots.items) }
-        ensures turn { IfOk result (TurnIs clauses.now conflicts (left_of conflicts self.old) self.new) }
+        ensures turn { IfOk result (TurnIs clauses.now conflicts (left_of clauses.now conflicts self.old) self.new) }
     {
         if !self.decide(clauses)? {
             return Ok(Turn::Ends(Ending::Satisfied));
@@ -86,7 +87,7 @@ impl Solver {
         requires few { length self.old.placed.trail.slots.items < 2 ^ 32 }
         requires within { length self.old.entries ≤ conflicts }
         ensures len { OnOk result (length self.new.placed.trail.slots.items ≡ length self.old.placed.trail.slots.items) }
-        ensures turn { IfOk result (TurnIs clauses.now conflicts (left_of conflicts self.old) self.new) }
+        ensures turn { IfOk result (TurnIs clauses.now conflicts (left_of clauses.now conflicts self.old) self.new) }
     {
         match conflict {
             Some(index) => {

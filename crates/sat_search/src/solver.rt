@@ -1,11 +1,11 @@
 //! The state of a search, and its moves: a decision, and what follows a conflict.
-ghost use Rattle.std.specs.Prelude.{◌≡◌, ◌+◌, ◌-◌, ◌<◌, ◌≤◌, ◌^◌, ◌≢◌, ◌⊎◌, ℕ, [], length, take, IfOk, OnOk, true, false, IfSome, IfNone, slice_get, Some, None, List};
+ghost use Rattle.std.specs.Prelude.{◌≡◌, ◌+◌, ◌-◌, ◌<◌, ◌≤◌, ◌^◌, ◌≢◌, ◌⊎◌, ℕ, [], length, take, IfOk, OnOk, true, false, IfSome, IfNone, IsSome, slice_get, Some, None, List};
 ghost use Rattle.std.specs.List.{All};
 ghost use Rattle.sat_check.specs.Clauses.{ClausesAreBelow};
-ghost use Rattle.sat_check.specs.Logs.{known_before};
+ghost use Rattle.sat_check.specs.Logs.{known_before, IsNew};
 ghost use Rattle.sat_search.specs.Trails.{falses_of};
 ghost use Rattle.sat_search.specs.Propagation.{IsConflict};
-ghost use Rattle.sat_search.specs.Watches.{IsTrail, AllGuarded};
+ghost use Rattle.sat_search.specs.Watches.{IsTrail, AllGuarded, flags_of};
 ghost use Rattle.sat_search.specs.Learning.{Learns};
 ghost use Rattle.sat_search.specs.States.{IsState, IsStart, IsAhead, Answers};
 ghost use Rattle.sat_search.specs.Turns.{Holds, LearnedIs, IsKept};
@@ -18,22 +18,27 @@ use crate::gathering::Levels;
 use crate::order::Order;
 use crate::placed::PlacedTrail;
 use crate::restarts::Restarts;
+use crate::shelf::Shelf;
+use crate::stock::Stock;
 use crate::trail::open_variable;
 use crate::watches::{Pair, Watches};
 use sat_check::{Clause, Entries, Entry, Lit};
 use std::alloc::{AllocError, Global};
 
 /// The trail with the places at which its levels begin, each with a decision; which clauses watch
-/// which literals; the entries learned so far; and what chooses the decisions.
+/// which literals; the entries learned so far, and a shelf of those that were set aside; and what
+/// chooses the decisions, the restarts, and the entries to be set aside.
 #[derive(Drop)]
 pub(crate) struct Solver {
     pub(crate) placed: PlacedTrail,
     pub(crate) levels: Vec<usize>,
     pub(crate) watches: Watches,
     pub(crate) entries: Entries,
+    pub(crate) shelf: Shelf,
     pub(crate) analysis: Analysis,
     pub(crate) order: Order,
     pub(crate) restarts: Restarts,
+    pub(crate) stock: Stock,
 }
 
 /// What learning from a conflict comes to.
@@ -43,8 +48,10 @@ pub(crate) enum Learning {
     Refuted,
     /// The entry's asserting literal was made true, and is to be propagated.
     Asserted,
-    /// All decisions were taken back.
-    Restarted,
+    /// All decisions were taken back, and nothing is to be propagated.
+    Cleared,
+    /// All decisions were taken back, and the clause of that number is false.
+    Conflict(u32),
 }
 
 impl Solver {
@@ -69,9 +76,11 @@ impl Solver {
             levels: Vec::new(alloc),
             watches,
             entries: Entries::new(alloc),
+            shelf: Shelf::new(alloc, variables)?,
             analysis: Analysis::new(alloc, variables)?,
             order: Order::new(alloc, variables)?,
             restarts: Restarts::new(),
+            stock: Stock::new(alloc, clauses.len()),
         };
         Ok((solver, conflict))
     }
@@ -84,6 +93,7 @@ impl Solver {
         ensures len { OnOk result (length self.new.placed.trail.slots.items ≡ length self.old.placed.trail.slots.items) }
         ensures entries { OnOk result (self.new.entries ≡ self.old.entries) }
         ensures longer { OnOk result (length self.old.placed.trail.steps.items ≤ length self.new.placed.trail.steps.items) }
+        ensures flags { OnOk result (flags_of self.new.watches.pairs.items ≡ flags_of self.old.watches.pairs.items) }
         ensures state { OnOk result (Holds clauses.now self.new) }
         ensures answers { IfOk result (Answers (known_before clauses.now self.new.entries) self.new.placed.trail.steps.items self.new.watches) }
     {
@@ -101,6 +111,7 @@ impl Solver {
         ensures levels { self.new.levels ≡ self.old.levels }
         ensures watches { self.new.watches ≡ self.old.watches }
         ensures entries { self.new.entries ≡ self.old.entries }
+        ensures shelf { self.new.shelf ≡ self.old.shelf }
         ensures analysis { self.new.analysis ≡ self.old.analysis }
         ensures found { IfSome result (λ v. (slot : OneSlot) × (slice_get self.old.placed.trail.slots.items v ≡ Some slot) × (slot.assigned ≡ false)) }
         ensures none { IfNone result (All (λ slot. slot.assigned ≡ true) self.old.placed.trail.slots.items) }
@@ -108,6 +119,7 @@ impl Solver {
         while let Some(variable) = self.order.pop() {
             if let Some(slot) = self.placed.trail.slots.get(variable as usize) {
                 if !slot.assigned {
+                    self.order.count_decision();
                     return Some(variable);
                 }
             }
@@ -124,6 +136,7 @@ impl Solver {
         requires few { length self.old.placed.trail.slots.items < 2 ^ 32 }
         ensures len { OnOk result (length self.new.placed.trail.slots.items ≡ length self.old.placed.trail.slots.items) }
         ensures entries { OnOk result (self.new.entries ≡ self.old.entries) }
+        ensures flags { OnOk result (flags_of self.new.watches.pairs.items ≡ flags_of self.old.watches.pairs.items) }
         ensures state { OnOk result (Holds clauses.now self.new) }
         ensures decided { IfOk result (λ decided. decided ≡ true → IsAhead (known_before clauses.now self.new.entries) self.new.placed.trail.steps.items self.new.watches × (length self.new.placed.trail.steps.items ≡ length self.old.placed.trail.steps.items + 1)) }
         ensures whole { IfOk result (λ decided. decided ≡ false → All (λ slot. slot.assigned ≡ true) self.new.placed.trail.slots.items × (self.new.placed ≡ self.old.placed) × (self.new.watches ≡ self.old.watches)) }
@@ -162,46 +175,90 @@ impl Solver {
             conflict,
             levels,
         )?;
+        self.reorder();
+        let learning = self.settle(alloc, clauses, learned, levels)?;
+        Ok(learning)
+    }
+
+    // Keeps what was learned, unless an entry that was set aside lies within it: that is taken up.
+    fn settle(
+        &mut self,
+        alloc: Global,
+        clauses: &[Clause],
+        learned: Learned,
+        levels: Levels,
+    ) -> Result<Learning, AllocError>
+        requires state { Holds clauses.now self.old }
+        requires start { IsStart self.old.levels.items levels.start }
+        requires base { ((self.old.levels.items ≡ []) × (levels.base ≡ length self.old.placed.trail.steps.items)) ⊎ (slice_get self.old.levels.items 0 ≡ Some levels.base) }
+        requires leveled { IsSome learned.asserting → levels.base < length self.old.placed.trail.steps.items }
+        requires learns { Learns (known_before clauses.now self.old.entries) self.old.placed.trail.steps.items levels.start learned.entry.clause.lits learned.entry.hints learned.asserting learned.keep }
+        requires below { ClausesAreBelow (length self.old.placed.trail.slots.items) clauses.now }
+        ensures { IfOk result (LearnedIs clauses.now self.old self.new) }
+    {
         let Learned {
             entry,
             asserting,
             keep,
         } = learned;
-        self.reorder();
-        let Some(asserting) = asserting else {
+        if entry.clause.lits.is_empty() {
             self.entries.push(entry)?;
             return Ok(Learning::Refuted);
+        }
+        let found = self.shelf.within(
+            self.watches.pairs.as_slice(),
+            clauses,
+            self.entries.as_slice(),
+            entry.clause.lits.as_slice(),
+        );
+        if let Some(number) = found {
+            let learning = self.take_up(clauses, number, levels.base)?;
+            return Ok(learning);
+        }
+        let Some(asserting) = asserting else {
+            let learning = self.keep_early(clauses, entry, levels.base)?;
+            return Ok(learning);
         };
         if self.restarts.is_due() && levels.base < keep {
             self.restart(clauses, entry, asserting, levels.start, levels.base, keep)?;
-            return Ok(Learning::Restarted);
+            self.reduce(alloc, clauses)?;
+            return Ok(Learning::Cleared);
         }
         self.jump(clauses, entry, asserting, levels.start, keep)?;
+        self.reduce(alloc, clauses)?;
         Ok(Learning::Asserted)
     }
 
-    // The variables that took part in the conflict come earlier from now on.
+    // The variables that took part in the conflict come earlier from now on. Those of the reasons
+    // beyond do too, but where many decisions lead to a conflict, that gains nothing.
     fn reorder(&mut self)
         ensures placed { self.new.placed ≡ self.old.placed }
         ensures levels { self.new.levels ≡ self.old.levels }
         ensures watches { self.new.watches ≡ self.old.watches }
         ensures entries { self.new.entries ≡ self.old.entries }
+        ensures shelf { self.new.shelf ≡ self.old.shelf }
         ensures analysis { self.new.analysis ≡ self.old.analysis }
     {
         for variable in &self.analysis.gathering.seen {
             self.order.bump(*variable);
         }
+        if self.order.has_few_decisions() {
+            for variable in &self.analysis.gathering.tried {
+                self.order.bump(*variable);
+            }
+        }
         self.order.decay();
         self.restarts.count();
     }
 
-    // Takes back all steps from a place on, and lets their variables be decided again.
-    fn undo(&mut self, place: usize) -> Result<(), AllocError>
+    /// Takes back all steps from a place on, and lets their variables be decided again.
+    pub(crate) fn undo(&mut self, place: usize) -> Result<(), AllocError>
         requires trail { (known : List OneClause) × IsTrail known self.old.placed }
         requires within { place ≤ length self.old.placed.trail.steps.items }
         ensures levels { OnOk result (self.new.levels ≡ self.old.levels) }
         ensures watches { OnOk result (self.new.watches ≡ self.old.watches) }
         ensures entries { OnOk result (self.new.entries ≡ self.old.entries) }
+        ensures shelf { OnOk result (self.new.shelf ≡ self.old.shelf) }
         ensures analysis { OnOk result (self.new.analysis ≡ self.old.analysis) }
         ensures len { OnOk result (length self.new.placed.trail.slots.items ≡ length self.old.placed.trail.slots.items) }
         ensures steps { OnOk result (self.new.placed.trail.steps.items ≡ take place self.old.placed.trail.steps.items) }
@@ -230,6 +287,7 @@ impl Solver {
         requires state { Holds clauses.now self.old }
         requires start { slice_get self.old.levels.items (length self.old.levels.items - 1) ≡ Some start }
         requires learns { Learns (known_before clauses.now self.old.entries) self.old.placed.trail.steps.items start entry.clause.lits entry.hints (Some asserting) keep }
+        requires new { IsNew (known_before clauses.now self.old.entries) entry }
         requires level { slice_get self.old.levels.items level ≡ Some place }
         requires earlier { (i a : ℕ) → i < level → slice_get self.old.levels.items i ≡ Some a → a < keep }
         ensures { IfOk result (IsKept clauses.now self.old self.new asserting keep place) }
@@ -241,9 +299,11 @@ impl Solver {
         let pair = Pair {
             first: asserting,
             second,
+            aside: false,
         };
         self.watches.watch(index, pair)?;
         self.entries.push(entry)?;
+        self.stock.add(index)?;
         Ok(index)
     }
 
@@ -260,7 +320,9 @@ impl Solver {
         requires state { Holds clauses.now self.old }
         requires start { slice_get self.old.levels.items (length self.old.levels.items - 1) ≡ Some start }
         requires learns { Learns (known_before clauses.now self.old.entries) self.old.placed.trail.steps.items start entry.clause.lits entry.hints (Some asserting) keep }
-        ensures { OnOk result (LearnedIs clauses.now self.old self.new Learning.Asserted) }
+        requires new { IsNew (known_before clauses.now self.old.entries) entry }
+        ensures learned { OnOk result (LearnedIs clauses.now self.old self.new Learning.Asserted) }
+        ensures more { OnOk result (length self.new.entries ≡ length self.old.entries + 1) }
     {
         let Some((level, place)) = level_from(self.levels.as_slice(), keep) else {
             unreachable!()
@@ -284,8 +346,10 @@ impl Solver {
         requires start { slice_get self.old.levels.items (length self.old.levels.items - 1) ≡ Some start }
         requires base { slice_get self.old.levels.items 0 ≡ Some base }
         requires learns { Learns (known_before clauses.now self.old.entries) self.old.placed.trail.steps.items start entry.clause.lits entry.hints (Some asserting) keep }
+        requires new { IsNew (known_before clauses.now self.old.entries) entry }
         requires two { base < keep }
-        ensures { OnOk result (LearnedIs clauses.now self.old self.new Learning.Restarted) }
+        ensures learned { OnOk result (LearnedIs clauses.now self.old self.new Learning.Cleared) }
+        ensures more { OnOk result (length self.new.entries ≡ length self.old.entries + 1) }
     {
         let _index = self.keep_entry(clauses, entry, asserting, start, keep, 0, base)?;
         self.restarts.begin();
@@ -342,8 +406,8 @@ fn levels_of(levels: &[usize], steps: usize) -> Levels
     }
 }
 
-// The number of the next entry as a hint. One that no hint can name is answered as want of memory.
-fn next_index(clauses: usize, entries: usize) -> Result<u32, AllocError>
+/// The number of the next entry as a hint. One that no hint can name is answered as want of memory.
+pub(crate) fn next_index(clauses: usize, entries: usize) -> Result<u32, AllocError>
     ensures { IfOk result (λ index. index ≡ clauses + entries) }
 {
     let Some(index) = clauses.checked_add(entries) else {

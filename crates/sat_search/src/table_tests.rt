@@ -87,28 +87,76 @@ fn is_satisfiable(
     }
 }
 
+/// The literal that a pigeon is in a hole.
+fn placed(pigeon: u32, hole: u32, holes: u32, positive: bool) -> Lit {
+    Lit {
+        variable: pigeon.saturating_mul(holes).saturating_add(hole),
+        positive,
+    }
+}
+
+/// Each of so many pigeons is in one of so many holes, and no two are in one.
+fn pigeons_into(alloc: Global, pigeons: u32, holes: u32) -> Result<Vec<Clause>, AllocError> {
+    let mut clauses = Vec::new(alloc);
+    for pigeon in 0..pigeons {
+        let mut lits = Lits::new(alloc);
+        for hole in 0..holes {
+            lits.push(placed(pigeon, hole, holes, true))?;
+        }
+        clauses.push(Clause { lits })?;
+    }
+    for hole in 0..holes {
+        for pigeon in 0..pigeons {
+            for other in 0..pigeon {
+                let mut lits = Lits::new(alloc);
+                lits.push(placed(other, hole, holes, false))?;
+                lits.push(placed(pigeon, hole, holes, false))?;
+                clauses.push(Clause { lits })?;
+            }
+        }
+    }
+    Ok(clauses)
+}
+
 /// Runs both searches, and compares what they find.
-fn both(alloc: Global, variables: u32, written: &[i32]) -> Result<bool, Fail> {
-    let clauses = formula(alloc, written)?;
-    if !are_below(variables, clauses.as_slice()) {
+fn both(alloc: Global, variables: u32, clauses: &[Clause]) -> Result<bool, Fail> {
+    if !are_below(variables, clauses) {
         return Err("a variable is past the end".into());
     }
-    let found = search(alloc, variables, clauses.as_slice(), 100_000)?;
-    let plain = plain_search(alloc, variables, clauses.as_slice(), 100_000)?;
-    let first = is_satisfiable(alloc, variables, clauses.as_slice(), &found)?;
-    let second = is_satisfiable(alloc, variables, clauses.as_slice(), &plain)?;
+    let found = search(alloc, variables, clauses, 100_000)?;
+    let plain = plain_search(alloc, variables, clauses, 100_000)?;
+    let first = is_satisfiable(alloc, variables, clauses, &found)?;
+    let second = is_satisfiable(alloc, variables, clauses, &plain)?;
     if first != second {
         return Err("the searches differ".into());
     }
     Ok(first)
 }
 
+/// Runs both searches over a table.
+fn both_over(alloc: Global, variables: u32, written: &[i32]) -> Result<bool, Fail> {
+    let clauses = formula(alloc, written)?;
+    both(alloc, variables, clauses.as_slice())
+}
+
 #[test]
 fn both_searches_agree(rt: HostRuntime) -> Result<(), Fail> {
     let alloc = rt.alloc();
-    assert_eq!(rt; both(alloc, 6, &PIGEONS_3)?, false);
-    assert_eq!(rt; both(alloc, 12, &PIGEONS_4)?, false);
-    assert_eq!(rt; both(alloc, 8, &RANDOM_SATISFIABLE)?, true);
-    assert_eq!(rt; both(alloc, 8, &RANDOM_REFUTED)?, false);
+    assert_eq!(rt; both_over(alloc, 6, &PIGEONS_3)?, false);
+    assert_eq!(rt; both_over(alloc, 12, &PIGEONS_4)?, false);
+    assert_eq!(rt; both_over(alloc, 8, &RANDOM_SATISFIABLE)?, true);
+    assert_eq!(rt; both_over(alloc, 8, &RANDOM_REFUTED)?, false);
+    Ok(())
+}
+
+// Eight pigeons have no place in seven holes, and it takes so many entries to learn that some are
+// set aside. In eight they have.
+#[test]
+fn entries_are_set_aside(rt: HostRuntime) -> Result<(), Fail> {
+    let alloc = rt.alloc();
+    let clauses = pigeons_into(alloc, 8, 7)?;
+    assert_eq!(rt; both(alloc, 56, clauses.as_slice())?, false);
+    let clauses = pigeons_into(alloc, 8, 8)?;
+    assert_eq!(rt; both(alloc, 64, clauses.as_slice())?, true);
     Ok(())
 }

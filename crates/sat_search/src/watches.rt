@@ -1,7 +1,7 @@
 //! Which clauses watch a literal.
-ghost use Rattle.std.specs.Prelude.{◌≡◌, ℕ, ◌+◌, ◌<◌, [], ◌∷◌, ◌++◌, length, List, IfOk, OnOk, slice_index_or};
+ghost use Rattle.std.specs.Prelude.{◌≡◌, ℕ, ◌+◌, ◌<◌, [], ◌∷◌, ◌++◌, length, List, IfOk, OnOk, Some, slice_index_or, slice_get, slice_set};
 ghost use Rattle.std.specs.List.{swap_remove};
-ghost use Rattle.sat_search.specs.Watches.{watchers_of, list_at, IsWritten, IsWrittenAt, WatchesMore};
+ghost use Rattle.sat_search.specs.Watches.{watchers_of, list_at, IsWritten, IsWrittenAt, ListsMore, WatchesMore, IsPut};
 ghost use Rattle.sat_check.specs.declared.clause.Lit.{Lit as OneLit};
 ghost use Rattle.sat_search.specs.declared.watches.Watcher.{Watcher as OneWatcher};
 
@@ -15,11 +15,13 @@ pub(crate) struct Watcher {
     pub(crate) blocker: Lit,
 }
 
-/// The two literals that a clause watches. Where they are one, it watches none.
+/// The two literals that a clause watches. Where they are one, it watches none: a literal of it is
+/// true before any decision, or it was set aside.
 #[derive(Clone, Copy)]
 pub(crate) struct Pair {
     pub(crate) first: Lit,
     pub(crate) second: Lit,
+    pub(crate) aside: bool,
 }
 
 /// For each variable the clauses that watch it, and those that watch its negation; and for each
@@ -71,13 +73,14 @@ impl Watches {
         }
     }
 
-    /// The clause of that number, which is the next, watches the pair.
-    pub(crate) fn watch(&mut self, index: u32, pair: Pair) -> Result<(), AllocError>
+    // Lists the clause of that number under both literals of the pair, unless they are one.
+    fn list(&mut self, index: u32, pair: Pair) -> Result<(), AllocError>
         requires first_positive { pair.first.variable < length self.old.positive.items }
         requires first_negative { pair.first.variable < length self.old.negative.items }
         requires second_positive { pair.second.variable < length self.old.positive.items }
         requires second_negative { pair.second.variable < length self.old.negative.items }
-        ensures { OnOk result (WatchesMore self.old self.new index pair) }
+        ensures pairs { OnOk result (self.new.pairs.items ≡ self.old.pairs.items) }
+        ensures lists { OnOk result (ListsMore self.old self.new index pair) }
     {
         if pair.first != pair.second {
             let first = Watcher {
@@ -91,8 +94,46 @@ impl Watches {
             self.push(pair.first, first)?;
             self.push(pair.second, second)?;
         }
+        Ok(())
+    }
+
+    /// The clause of that number, which is the next, watches the pair.
+    pub(crate) fn watch(&mut self, index: u32, pair: Pair) -> Result<(), AllocError>
+        requires first_positive { pair.first.variable < length self.old.positive.items }
+        requires first_negative { pair.first.variable < length self.old.negative.items }
+        requires second_positive { pair.second.variable < length self.old.positive.items }
+        requires second_negative { pair.second.variable < length self.old.negative.items }
+        ensures { OnOk result (WatchesMore self.old self.new index pair) }
+    {
+        self.list(index, pair)?;
         self.pairs.push(pair)?;
         Ok(())
+    }
+
+    /// The clause of that number watches the pair from now on.
+    pub(crate) fn put(&mut self, index: u32, pair: Pair) -> Result<(), AllocError>
+        requires first_positive { pair.first.variable < length self.old.positive.items }
+        requires first_negative { pair.first.variable < length self.old.negative.items }
+        requires second_positive { pair.second.variable < length self.old.positive.items }
+        requires second_negative { pair.second.variable < length self.old.negative.items }
+        requires index { index < length self.old.pairs.items }
+        ensures { OnOk result (IsPut self.old self.new index pair) }
+    {
+        self.list(index, pair)?;
+        self.pairs[index as usize] = pair;
+        Ok(())
+    }
+
+    /// The clause of that number watches nothing from now on.
+    pub(crate) fn rest(&mut self, index: u32, lit: Lit, aside: bool)
+        requires { index < length self.old.pairs.items }
+        ensures { IsPut self.old self.new index (record { first = lit; second = lit; aside = aside }) }
+    {
+        self.pairs[index as usize] = Pair {
+            first: lit,
+            second: lit,
+            aside,
+        };
     }
 
     /// The clause at that place no longer watches the literal, and the last takes its place.
@@ -106,6 +147,20 @@ impl Watches {
             remove_at(&mut self.positive, lit.variable, place);
         } else {
             remove_at(&mut self.negative, lit.variable, place);
+        }
+    }
+
+    /// The watcher at that place of the literal's list has this blocker from now on.
+    pub(crate) fn block(&mut self, lit: Lit, place: usize, blocker: Lit)
+        requires positive { lit.variable < length self.old.positive.items }
+        requires negative { lit.variable < length self.old.negative.items }
+        requires within { place < length (watchers_of self.old lit) }
+        ensures { (watcher : OneWatcher) × (slice_get (watchers_of self.old lit) place ≡ Some watcher) × IsWritten self.old self.new lit (slice_set (watchers_of self.old lit) place (record { index = watcher.index; blocker = blocker })) }
+    {
+        if lit.positive {
+            block_at(&mut self.positive, lit.variable, place, blocker);
+        } else {
+            block_at(&mut self.negative, lit.variable, place, blocker);
         }
     }
 }
@@ -124,6 +179,14 @@ fn remove_at(lists: &mut Vec<Vec<Watcher>>, list: u32, place: usize)
     ensures { (last : OneWatcher) × IsWrittenAt lists.old.items lists.new.items list (swap_remove (list_at lists.old.items list) place last) }
 {
     let _watcher = lists[list as usize].swap_remove(place);
+}
+
+fn block_at(lists: &mut Vec<Vec<Watcher>>, list: u32, place: usize, blocker: Lit)
+    requires list { list < length lists.old.items }
+    requires within { place < length (list_at lists.old.items list) }
+    ensures { (watcher : OneWatcher) × (slice_get (list_at lists.old.items list) place ≡ Some watcher) × IsWrittenAt lists.old.items lists.new.items list (slice_set (list_at lists.old.items list) place (record { index = watcher.index; blocker = blocker })) }
+{
+    lists[list as usize][place].blocker = blocker;
 }
 
 fn no_lists(alloc: Global, variables: u32) -> Result<Vec<Vec<Watcher>>, AllocError>

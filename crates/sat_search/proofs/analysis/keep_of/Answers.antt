@@ -1,7 +1,6 @@
-use Rattle.std.proofs.Common.{◌≡◌, ◌<◌, List, get_or, take, false, arith, sym, subst, inl, inr}
+use Rattle.std.proofs.Common.{◌<◌, get_or, take, false, arith, inl, inr}
 use Rattle.std.proofs.lemmas.List.{take_more, take_all}
 use Rattle.sat_check.specs.declared.clause.Lit.{Lit}
-use Rattle.sat_search.specs.Learning.{KeepIs}
 use Rattle.sat_search.proofs.Walking.{KeepIs-none, KeepIs-later, KeepIs-sooner}
 use Rattle.sat_search.proofs.analysis.keep_of.Goals as goal
 

@@ -1,4 +1,4 @@
-use Rattle.std.proofs.Common.{◌≡◌, ◌∙◌, ℕ, Bool, List, length, arith, sym, ap, subst}
+use Rattle.std.proofs.Common.{◌≡◌, ◌∙◌, ℕ, Bool, List, length, map, arith, sym, ap, subst}
 use Rattle.sat_check.specs.declared.log.Entry.{Entry}
 use Rattle.sat_check.specs.Logs.{EntriesAreBelow}
 use Rattle.sat_search.specs.declared.trail.Slot.{Slot}
@@ -6,6 +6,7 @@ use Rattle.sat_search.specs.declared.plain.running.Ending.{Ending}
 use Rattle.sat_search.specs.Trails.{values_of}
 use Rattle.sat_search.specs.PlainTurns.{EndingIs, IsWhole, IsAtEnd}
 use Rattle.sat_search.specs.Searches.{IsSolution, IsSpent}
+use Rattle.sat_search.proofs.Lists.{slice_get-append_left}
 use Rattle.sat_search.proofs.Counting.{new_entries_few}
 use Rattle.sat_search.proofs.Solutions.{solution}
 use Rattle.sat_search.proofs.plain.plain_search.Goals as goal
@@ -19,7 +20,8 @@ returns-in_ok-values-in-Satisfied-clause-assignment c =
     let values : c.in_ok-values-in-Satisfied.values ≡ values_of end.trail.slots.items =
     c.in_ok-values-in-Satisfied.ensures ∙ ap (λ (s : List Slot). values_of s) c.as_slice.ensures.value in
     subst (λ (vs : List Bool). IsSolution c.args.variables clauses vs) (sym values)
-    (solution c.args.variables clauses end.entries end.trail.slots.items end.trail.steps.items len c.requires whole.keeps whole.assigned whole.stuck)
+    (solution c.args.variables clauses end.entries end.trail.slots.items end.trail.steps.items len c.requires whole.keeps whole.assigned
+    (λ index clause named. whole.stuck index clause (slice_get-append_left clauses (map (λ (e : Entry). e.clause) end.entries) index clause named)))
 
 pub returns-in-Spent-clause-spent : goal.returns-in-Spent-clause-spent
 returns-in-Spent-clause-spent c =

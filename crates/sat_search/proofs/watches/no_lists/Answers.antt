@@ -1,4 +1,4 @@
-use Rattle.std.proofs.Common.{◌≡◌, ◌∙◌, ℕ, ◌+◌, ◌∷◌, ◌++◌, [], List, length, arith, ap, sym, subst, Vec}
+use Rattle.std.proofs.Common.{◌≡◌, ◌∷◌, [], List, length, arith, ap, sym, subst, Vec}
 use Rattle.std.specs.declared.alloc.Global.{Global}
 use Rattle.std.proofs.lemmas.List.{length-append}
 use Rattle.sat_search.specs.declared.watches.Watcher.{Watcher}

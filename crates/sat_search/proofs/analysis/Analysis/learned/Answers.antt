@@ -1,4 +1,4 @@
-use Rattle.std.proofs.Common.{◌≡◌, ◌∙◌, ℕ, ◌<◌, ◌++◌, List, Some, length, option_to_list, sym, ap, subst}
+use Rattle.std.proofs.Common.{◌∙◌, ℕ, ◌<◌, ◌++◌, List, length, option_to_list, sym, ap, subst}
 use Rattle.sat_check.specs.declared.clause.Lit.{Lit}
 use Rattle.sat_check.specs.Logs.{Refutes, known_before}
 use Rattle.sat_search.specs.Learning.{Learns, KeepIs}

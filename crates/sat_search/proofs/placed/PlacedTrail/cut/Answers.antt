@@ -1,4 +1,4 @@
-use Rattle.std.proofs.Common.{◌≡◌, ◌∙◌, ℕ, List, Some, length, sym, ap, subst}
+use Rattle.std.proofs.Common.{◌≡◌, ◌∙◌, List, Some, sym, subst}
 use Rattle.std.specs.List.{slice_get}
 use Rattle.sat_search.specs.declared.trail.Step.{Step}
 use Rattle.sat_search.proofs.Lists.{take_slice_get}

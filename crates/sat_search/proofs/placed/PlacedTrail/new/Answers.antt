@@ -1,4 +1,4 @@
-use Rattle.std.proofs.Common.{◌≡◌, ◌∙◌, ℕ, List, Some, length, arith, sym, ap, subst}
+use Rattle.std.proofs.Common.{◌≡◌, List, Some, arith, subst}
 use Rattle.std.specs.List.{slice_get}
 use Rattle.std.proofs.lemmas.Option.{none-some}
 use Rattle.sat_search.specs.declared.trail.Step.{Step}

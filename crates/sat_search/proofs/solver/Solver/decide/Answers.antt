@@ -1,4 +1,4 @@
-use Rattle.std.proofs.Common.{◌≡◌, ◌∙◌, ℕ, ◌<◌, ◌+◌, List, [], ◌∷◌, ◌++◌, Some, None, length, arith, refl, sym, ap, subst}
+use Rattle.std.proofs.Common.{◌≡◌, ◌∙◌, ℕ, ◌+◌, List, [], ◌∷◌, Some, None, length, arith, refl, sym, ap, subst}
 use Rattle.std.specs.List.{slice_get}
 use Rattle.std.proofs.lemmas.List.{length-append}
 use Rattle.sat_check.specs.Logs.{known_before}
@@ -8,6 +8,7 @@ use Rattle.sat_search.specs.Trails.{falses_of}
 use Rattle.sat_search.specs.Watches.{AllGuarded}
 use Rattle.sat_search.specs.States.{IsState, IsAhead}
 use Rattle.sat_search.specs.Marks.{IsReady}
+use Rattle.sat_search.specs.Shelves.{IsShelf}
 use Rattle.sat_search.specs.Turns.{Holds}
 use Rattle.sat_search.proofs.Keeping.{Holds-same, State-decide}
 use Rattle.sat_search.proofs.solver.Solver.decide.Goals as goal
@@ -23,7 +24,7 @@ decided c =
     let it = c.in-Some.ensures in
     let variable = c.in-Some.variable in
     let (slot, at, is_open) = it.found in
-    let holds : Holds c.args.clauses.now own = Holds-same c.args.clauses.now old own it.placed it.levels it.watches it.entries it.analysis c.requires.state in
+    let holds : Holds c.args.clauses.now own = Holds-same c.args.clauses.now old own it.placed it.levels it.watches it.entries it.shelf it.analysis c.requires.state in
     let guarded : AllGuarded (known_before c.args.clauses.now own.entries) own.watches.pairs.items (falses_of own.placed.trail.steps.items) (falses_of own.placed.trail.steps.items) =
     rw (it.placed, it.watches, it.entries) c.requires.guarded in
     let made = c.in_ok-assign.ensures in
@@ -36,8 +37,13 @@ returns-clause-state c =
     let it = c.in-Some.ensures in
     let both = decided (goal.at.returns-clause-state c).In_ok-push in
     let holds : Holds c.args.clauses.now c.next_variable.new.self =
-    Holds-same c.args.clauses.now c.args.self.now c.next_variable.new.self it.placed it.levels it.watches it.entries it.analysis c.requires.state in
-    record { state = both.0; ready = subst (λ (n : ℕ). IsReady n c.next_variable.new.self.analysis) (sym both.2) holds.ready }
+    Holds-same c.args.clauses.now c.args.self.now c.next_variable.new.self it.placed it.levels it.watches it.entries it.shelf it.analysis c.requires.state in
+    record {
+      state = both.0;
+      ready = subst (λ (n : ℕ). IsReady n c.next_variable.new.self.analysis) (sym both.2) holds.ready;
+      shelf = subst (λ (n : ℕ). IsShelf n c.next_variable.new.self.shelf) (sym both.2) holds.shelf;
+      carded = holds.carded;
+    }
 
 pub returns-clause-decided : goal.returns-clause-decided
 returns-clause-decided c _ =

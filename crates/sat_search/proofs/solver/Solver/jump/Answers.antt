@@ -1,4 +1,4 @@
-use Rattle.std.proofs.Common.{◌≡◌, ◌∙◌, ℕ, ◌+◌, ◌-◌, ◌<◌, ◌≤◌, zero, suc, List, Some, length, arith, refl, sym, ap, subst, inl, inr}
+use Rattle.std.proofs.Common.{◌≡◌, ℕ, ◌+◌, ◌-◌, ◌<◌, List, Some, length, arith, refl, sym, ap, subst, inl, inr}
 use Rattle.std.specs.List.{slice_get}
 use Rattle.std.proofs.lemmas.Bool.{cases_eq}
 use Rattle.std.proofs.lemmas.Option.{slice_get_within}
@@ -44,11 +44,11 @@ assign-requires-clause-below c =
 pub assign-requires-clause-places : goal.assign-requires-clause-places
 assign-requires-clause-places c = c.in_ok-index.ensures.holds.state.trail.places_len
 
-pub returns : goal.returns
-returns c =
+pub returns-clause-learned : goal.returns-clause-learned
+returns-clause-learned c =
     let mid = c.keep_entry.new.self in
     let made = c.in_ok-assign.ensures in
     let step : Step = record { falsified = c.opposite.result; reason = Some c.in_ok-index.index } in
     Asserts c.args.clauses.now c.args.self.now mid
-    (record { placed = c.assign.new.self; levels = mid.levels; watches = mid.watches; entries = mid.entries; analysis = mid.analysis; order = mid.order; restarts = mid.restarts })
-    c.args.asserting c.args.keep c.in-Some.place c.in_ok-index.index step c.in_ok-index.ensures c.in-Some.ensures.found.1 c.opposite.ensures refl refl refl refl refl made.slots made.steps made.places
+    (record { placed = c.assign.new.self; levels = mid.levels; watches = mid.watches; entries = mid.entries; shelf = mid.shelf; analysis = mid.analysis; order = mid.order; restarts = mid.restarts; stock = mid.stock })
+    c.args.asserting c.args.keep c.in-Some.place c.in_ok-index.index step c.in_ok-index.ensures c.in-Some.ensures.found.1 c.opposite.ensures refl refl refl refl refl refl made.slots made.steps made.places

@@ -1,15 +1,10 @@
-use Rattle.std.proofs.Common.{◌≡◌, ◌≢◌, ◌⊎◌, ◌∙◌, ℕ, ◌+◌, ◌-◌, ◌<◌, ◌≤◌, List, [], ◌∷◌, ◌++◌, Some, length, take, arith, refl, sym, ap, subst, inl, inr}
-use Rattle.std.specs.List.{slice_get, Contains}
+use Rattle.std.proofs.Common.{◌∙◌, ℕ, ◌+◌, ◌-◌, ◌<◌, List, [], ◌∷◌, ◌++◌, false, length, take, arith, sym, ap, subst, inl, inr}
 use Rattle.std.proofs.lemmas.Bool.{cases_order}
-use Rattle.std.proofs.lemmas.Option.{same_Some}
 use Rattle.sat_check.specs.declared.clause.Lit.{Lit}
 use Rattle.sat_check.specs.declared.log.Entry.{Entry}
 use Rattle.sat_check.specs.Logs.{known_before}
-use Rattle.sat_search.specs.declared.trail.Step.{Step}
-use Rattle.sat_search.specs.declared.placed.PlacedTrail.{PlacedTrail}
 use Rattle.sat_search.specs.declared.watches.Watches.{Watches}
 use Rattle.sat_search.specs.Watches.{WatchesMore}
-use Rattle.sat_search.proofs.Refuting.{false_below}
 use Rattle.sat_search.proofs.Moves.{asserting_below}
 use Rattle.sat_search.proofs.Keeping.{Kept}
 use Rattle.sat_search.proofs.solver.Solver.keep_entry.Goals as goal
@@ -19,8 +14,8 @@ first_below : (c : After-second_of-second) → c.args.asserting.variable < lengt
 first_below c =
     let own = c.args.self.now in
     let state = c.requires.state.state in
-    asserting_below (known_before c.args.clauses.now own.entries) own.placed.trail.slots.items own.placed.trail.steps.items own.levels.items c.args.start c.args.entry c.args.asserting c.args.keep
-    state.trail.keeps state.levels_are c.requires.learns c.requires.start
+    asserting_below (known_before c.args.clauses.now own.entries) own.placed.trail.slots.items own.placed.trail.steps.items c.args.start c.args.entry c.args.asserting c.args.keep
+    state.trail.keeps c.requires.learns
 
 second_below : (c : After-second_of-second) → c.second_of-second.result.variable < length c.args.self.now.placed.trail.slots.items
 second_below c =
@@ -62,12 +57,12 @@ returns c =
     let undone = c.in_ok-undo.ensures in
     let known = known_before c.args.clauses.now old.entries in
     let second = c.second_of-second.result in
-    let watches : WatchesMore old.watches c.watch.new.self c.in_ok-index.index (record { first = c.args.asserting; second = second }) =
-    subst (λ (w : Watches). WatchesMore w c.watch.new.self c.in_ok-index.index (record { first = c.args.asserting; second = second })) undone.watches c.in_ok-watch.ensures in
+    let watches : WatchesMore old.watches c.watch.new.self c.in_ok-index.index (record { first = c.args.asserting; second = second; aside = false }) =
+    subst (λ (w : Watches). WatchesMore w c.watch.new.self c.in_ok-index.index (record { first = c.args.asserting; second = second; aside = false })) undone.watches c.in_ok-watch.ensures in
     Kept c.args.clauses.now old
-    (record { placed = mid.placed; levels = c.truncate.new.self; watches = c.watch.new.self; entries = c.push.new.self; analysis = mid.analysis; order = mid.order; restarts = mid.restarts })
-    c.args.entry c.args.asserting second c.args.start c.args.keep c.args.level c.args.place c.in_ok-index.index c.requires.state c.requires.start c.requires.learns c.requires.level c.requires.earlier
+    (record { placed = mid.placed; levels = c.truncate.new.self; watches = c.watch.new.self; entries = c.push.new.self; shelf = mid.shelf; analysis = mid.analysis; order = mid.order; restarts = mid.restarts; stock = c.add.new.self })
+    c.args.entry c.args.asserting second c.args.start c.args.keep c.args.level c.args.place c.in_ok-index.index c.requires.state c.requires.start c.requires.learns c.requires.new c.requires.level c.requires.earlier
     c.second_of-second.ensures.some c.second_of-second.ensures.none (undone.trail known c.requires.state.state.trail) undone.len undone.steps
     (c.truncate.ensures.items ∙ ap (λ v. take c.args.level v.items) undone.levels) watches
     (c.in_ok-index.ensures ∙ ap (λ (m : ℕ). length c.args.clauses.now + m) (c.len.ensures ∙ ap (λ (es : List Entry). length es) undone.entries))
-    (c.in_ok-push.ensures.ok ∙ ap (λ (es : List Entry). es ++ c.args.entry ∷ []) undone.entries) undone.analysis
+    (c.in_ok-push.ensures.ok ∙ ap (λ (es : List Entry). es ++ c.args.entry ∷ []) undone.entries) undone.shelf undone.analysis

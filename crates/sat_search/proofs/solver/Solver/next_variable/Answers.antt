@@ -1,4 +1,4 @@
-use Rattle.std.proofs.Common.{◌≡◌, ◌∙◌, ◌<◌, List, Some, length, get_or, sym, ap, subst}
+use Rattle.std.proofs.Common.{◌≡◌, ◌∙◌, ◌<◌, List, Some, length, sym, ap, subst}
 use Rattle.std.specs.List.{slice_get}
 use Rattle.sat_check.proofs.Lists.{at_within}
 use Rattle.sat_search.specs.declared.trail.Slot.{Slot}

@@ -7,6 +7,7 @@ invariant-loop-variable l = record {
   levels : l.self.levels ≡ l.initial.self.levels;
   watches : l.self.watches ≡ l.initial.self.watches;
   entries : l.self.entries ≡ l.initial.self.entries;
+  shelf : l.self.shelf ≡ l.initial.self.shelf;
   analysis : l.self.analysis ≡ l.initial.self.analysis;
 }
 

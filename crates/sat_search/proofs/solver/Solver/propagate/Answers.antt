@@ -1,9 +1,10 @@
-use Rattle.std.proofs.Common.{◌≡◌, ℕ, List, length, sym, subst}
+use Rattle.std.proofs.Common.{ℕ, List, sym, subst}
 use Rattle.sat_check.specs.declared.log.Entry.{Entry}
 use Rattle.sat_check.specs.Logs.{known_before}
 use Rattle.sat_search.specs.Looks.{Propagates}
 use Rattle.sat_search.specs.Marks.{IsReady}
-use Rattle.sat_search.proofs.Keeping.{State-advance}
+use Rattle.sat_search.specs.Shelves.{IsShelf}
+use Rattle.sat_search.proofs.Keeping.{State-advance, AreCarded-flags}
 use Rattle.sat_search.proofs.solver.Solver.propagate.Goals as goal
 
 pub returns-clause-state : goal.returns-clause-state
@@ -15,4 +16,6 @@ returns-clause-state c =
     record {
       state = State-advance c.args.clauses.now own.placed placed own.levels.items own.watches c.propagate.new.self own.entries c.requires.state.state it.advances;
       ready = subst (λ (n : ℕ). IsReady n own.analysis) (sym it.advances.len) c.requires.state.ready;
+      shelf = subst (λ (n : ℕ). IsShelf n own.shelf) (sym it.advances.len) c.requires.state.shelf;
+      carded = AreCarded-flags (known_before c.args.clauses.now own.entries) own.watches.pairs.items c.propagate.new.self.pairs.items own.shelf it.advances.flags c.requires.state.carded;
     }

@@ -13,4 +13,4 @@ invariant-loop-ending l = record {
 }
 
 abbrev pub decreases-loop-ending : goal.decreases-loop-ending
-decreases-loop-ending l = left_of l.conflicts l.self
+decreases-loop-ending l = left_of l.clauses l.conflicts l.self

@@ -1,10 +1,13 @@
-use Rattle.std.proofs.Common.{◌≡◌, ◌∙◌, ℕ, ◌<◌, List, [], Some, length, arith, sym, ap, subst}
+use Rattle.std.proofs.Common.{◌≡◌, ◌∙◌, ℕ, List, [], Some, arith, sym, ap, subst}
 use Rattle.std.specs.List.{slice_get}
 use Rattle.std.proofs.lemmas.Option.{none-some}
 use Rattle.sat_check.specs.declared.log.Entry.{Entry}
 use Rattle.sat_check.specs.Logs.{known_before}
 use Rattle.sat_search.specs.States.{Answers}
 use Rattle.sat_search.specs.Marks.{IsReady}
+use Rattle.sat_search.specs.Shelves.{IsShelf}
+use Rattle.std.proofs.lemmas.Bool.{false≢true}
+use Rattle.sat_search.proofs.Flags.{NoneIsAside-at, IsFirm-none}
 use Rattle.sat_search.proofs.Levels.{LevelsAre-none}
 use Rattle.sat_search.proofs.solver.Solver.start.Goals as goal
 
@@ -21,9 +24,10 @@ returns-clause-state c =
       state =
           record {
             trail = rw known it.trail;
-            levels_are = rw (known, c.new-3.ensures.items) (LevelsAre-none (known_before clauses []) steps it.extends);
+            levels_are = rw c.new-3.ensures.items (LevelsAre-none clauses steps it.extends);
             watched = rw known it.watched;
             guarded = λ level place at. absurd (none-some place (subst (λ (l : List ℕ). slice_get l level ≡ Some place) c.new-3.ensures.items at));
+            firm = IsFirm-none clauses c.first_conflict.new.self.pairs.items it.none_aside;
             entries_are =
                 rw c.new-4.ensures
                 (record {
@@ -33,7 +37,9 @@ returns-clause-state c =
                   not_propagated = λ h. absurd (omega (arith, h));
                 });
           };
-      ready = subst (λ (n : ℕ). IsReady n c.in_ok-new.field-0) (sym (it.len ∙ c.in_ok-placed.ensures.len)) c.in_ok-new.ensures;
+      ready = subst (λ (n : ℕ). IsReady n c.in_ok-new-2.field-0) (sym (it.len ∙ c.in_ok-placed.ensures.len)) c.in_ok-new-2.ensures;
+      shelf = subst (λ (n : ℕ). IsShelf n c.in_ok-new.field-0) (sym (it.len ∙ c.in_ok-placed.ensures.len)) c.in_ok-new.ensures;
+      carded = λ index clause named (pair, at, aside). absurd (false≢true (sym (NoneIsAside-at c.first_conflict.new.self.pairs.items index pair it.none_aside at) ∙ aside));
     }
 
 pub returns-clause-answers : goal.returns-clause-answers

@@ -1,4 +1,4 @@
-use Rattle.std.proofs.Common.{◌≡◌, ◌∙◌, ℕ, ◌<◌, List, ◌++◌, length, refl, sym, subst}
+use Rattle.std.proofs.Common.{◌∙◌, ℕ, List, ◌++◌, refl, sym, subst}
 use Rattle.sat_check.specs.Logs.{Refutes, known_before}
 use Rattle.sat_search.specs.Trails.{falses_of}
 use Rattle.sat_search.proofs.trail.Trail.follow_all.Goals as goal

@@ -1,4 +1,4 @@
-use Rattle.std.proofs.Common.{◌≡◌, ℕ, List, length}
+use Rattle.std.proofs.Common.{◌≡◌, length}
 use Rattle.sat_check.specs.Logs.{known_before}
 use Rattle.sat_search.specs.Trails.{Keeps, falses_of}
 use Rattle.sat_search.specs.Walks.{LeadsFrom}

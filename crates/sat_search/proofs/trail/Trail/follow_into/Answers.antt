@@ -1,8 +1,6 @@
 use Rattle.std.proofs.Common.{◌≡◌, ◌∙◌, ℕ, List, [], ◌∷◌, ◌++◌, sym, ap, subst, append_assoc}
 use Rattle.sat_check.specs.declared.clause.Lit.{Lit}
 use Rattle.sat_check.specs.Logs.{Refutes, known_before}
-use Rattle.sat_search.specs.declared.walk.Follow.{Follow}
-use Rattle.sat_search.specs.declared.walk.Follow.TheVariants.{Ends, Leads, Skips}
 use Rattle.sat_search.specs.Trails.{falses_of}
 use Rattle.sat_search.specs.Walks.{FollowIs}
 use Rattle.sat_search.proofs.trail.Trail.follow_into.Goals as goal

@@ -1,4 +1,4 @@
-use Rattle.std.proofs.Common.{◌≡◌, ◌≢◌, ◌∙◌, ℕ, ◌<◌, true, false, List, [], ◌∷◌, ◌++◌, Some, length, get_or, arith, refl, sym, ap, subst, inl, inr}
+use Rattle.std.proofs.Common.{◌≡◌, ◌∙◌, ◌<◌, true, false, List, [], ◌∷◌, Some, length, refl, sym, ap, subst, inl, inr}
 use Rattle.std.specs.Option.{IsSome}
 use Rattle.std.specs.List.{All, slice_get, Contains}
 use Rattle.std.proofs.lemmas.Bool.{false≢true}
@@ -32,7 +32,7 @@ returns-in_ok-skip-in-AllFalse c =
     let shows = subst (λ (s : List Slot). Shows s falses) (sym c.as_slice.ensures.value) c.requires.trail.keeps.shows in
     let all : All (Contains falses) clause.lits = subst (λ (l : List Lit). All (Contains falses) l) (c.as_slice-lits.ensures ∙ ap (λ (x : Clause). x.lits) (sym c.index-clauses-index.is)) (c.in-AllFalse.ensures.standing falses shows) in
     let none : Lit = record { variable = 0; positive = false } in
-    Added clauses placed placed c.args.self.now c.skip.new.self c.args.index true clause (record { first = none; second = none }) named c.requires.index refl c.requires.trail
+    Added clauses placed placed c.args.self.now c.skip.new.self c.args.index true clause (record { first = none; second = none; aside = false }) named c.requires.index refl refl c.requires.trail
     (Extends-none placed.trail.steps.items) c.requires.watched (λ apart. absurd (apart refl)) c.in_ok-skip-in-AllFalse.ensures
     (λ _. (clause, slice_get-append_left clauses [] c.args.index clause named, all)) (λ e. absurd (false≢true (sym e)))
 
@@ -59,7 +59,7 @@ returns-in_ok-assign-in-Single c =
     let len : length new.trail.slots.items ≡ length old.trail.slots.items = ap (λ (s : List Slot). length s) made.slots ∙ length-set old.trail.slots.items step.falsified.variable (record { assigned = true; positive = step.falsified.positive }) in
     let now : Contains (falses_of new.trail.steps.items) (opposite_of lit) =
     subst (λ (s : List Step). Contains (falses_of s) (opposite_of lit)) (sym made.steps) (rw (falses-push old.trail.steps.items step, c.opposite.ensures) (Contains-push falses (opposite_of lit))) in
-    Added clauses old new c.args.self.now c.skip-in-Single.new.self index false clause (record { first = lit; second = lit }) named c.requires.index len trail
+    Added clauses old new c.args.self.now c.skip-in-Single.new.self index false clause (record { first = lit; second = lit; aside = false }) named c.requires.index refl len trail
     (step ∷ [], made.steps, All-cons (λ (s : Step). IsSome s.reason) step [] refl (All-nil (λ (s : Step). IsSome s.reason)))
     c.requires.watched (λ apart. absurd (apart refl)) c.in_ok-skip-in-Single.ensures (λ e. absurd (false≢true e)) (λ _. inl (lit, unit.stands, now))
 
@@ -74,7 +74,7 @@ returns-in_ok-skip-in-True c =
     let shows = subst (λ (s : List Slot). Shows s falses) (sym c.as_slice.ensures.value) c.requires.trail.keeps.shows in
     let is = c.in-True.ensures.standing falses shows in
     let stands : Contains clause.lits lit = subst (λ (l : List Lit). Contains l lit) (c.as_slice-lits.ensures ∙ ap (λ (x : Clause). x.lits) (sym c.index-clauses-index.is)) is.0 in
-    Added clauses placed placed c.args.self.now c.skip-in-True.new.self c.args.index false clause (record { first = lit; second = lit }) named c.requires.index refl c.requires.trail
+    Added clauses placed placed c.args.self.now c.skip-in-True.new.self c.args.index false clause (record { first = lit; second = lit; aside = false }) named c.requires.index refl refl c.requires.trail
     (Extends-none placed.trail.steps.items) c.requires.watched (λ apart. absurd (apart refl)) c.in_ok-skip-in-True.ensures
     (λ e. absurd (false≢true e)) (λ _. inl (lit, stands, is.1))
 
@@ -89,6 +89,6 @@ returns-in_ok-watch-in-Open c =
     let named : slice_get clauses c.args.index ≡ Some clause = slice_get-get_or clauses c.args.index clause c.requires.index ∙ ap (λ (x : Clause). Some x) (sym c.index-clauses-index.is) in
     let shows = subst (λ (s : List Slot). Shows s falses) (sym c.as_slice.ensures.value) c.requires.trail.keeps.shows in
     let is : AreOpen falses clause.lits first second = subst (λ (l : List Lit). AreOpen falses l first second) (c.as_slice-lits.ensures ∙ ap (λ (x : Clause). x.lits) (sym c.index-clauses-index.is)) (c.in-Open.ensures.standing falses shows) in
-    Added clauses placed placed c.args.self.now c.watch.new.self c.args.index false clause (record { first = first; second = second }) named c.requires.index refl c.requires.trail
+    Added clauses placed placed c.args.self.now c.watch.new.self c.args.index false clause (record { first = first; second = second; aside = false }) named c.requires.index refl refl c.requires.trail
     (Extends-none placed.trail.steps.items) c.requires.watched (λ apart. (is.first_stands, is.second_stands)) c.in_ok-watch-in-Open.ensures
     (λ e. absurd (false≢true e)) (λ _. inr (record { first = λ h. Contains-nil first h; second = λ h. Contains-nil second h; apart = is.apart }))

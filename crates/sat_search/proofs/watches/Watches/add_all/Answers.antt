@@ -1,7 +1,5 @@
-use Rattle.std.proofs.Common.{◌≡◌, ◌∙◌, ℕ, ◌≤◌, List, [], None, Some, length, take, get_or, arith, refl, sym, ap, subst, inl, inr, append-nil}
-use Rattle.std.specs.List.{All, Contains}
+use Rattle.std.proofs.Common.{◌≡◌, ◌∙◌, ℕ, List, [], length, take, get_or, arith, refl, sym, subst, inl, inr, append-nil}
 use Rattle.std.proofs.lemmas.Option.{none-some}
-use Rattle.sat_check.specs.declared.clause.Lit.{Lit}
 use Rattle.sat_check.specs.declared.clause.Clause.{Clause}
 use Rattle.sat_check.specs.Logs.{known_before}
 use Rattle.sat_search.specs.declared.trail.Step.{Step}
@@ -23,8 +21,9 @@ loop-index-init c =
       trail = c.requires.trail;
       extends = Extends-none c.args.placed.now.trail.steps.items;
       watched = c.requires.watched;
+      none_aside = λ k d within. absurd (omega (arith, c.requires.watched.pairs_len, within));
       found = λ index e. absurd (none-some index e);
-      guarded = λ _ k clause pair named at. absurd (none-some clause named);
+      guarded = λ _ k clause pair named at hot. absurd (none-some clause named);
     }
 
 pub loop-index-preserved : goal.loop-index-preserved
@@ -39,6 +38,7 @@ loop-index-preserved c =
       trail = it.trail;
       extends = Extends-both c.args.placed.now.trail.steps.items old.trail.steps.items new.trail.steps.items before.extends it.extends;
       watched = it.watched;
+      none_aside = it.none_aside before.none_aside;
       found = λ index e.
           elim (c.first_of-conflict.ensures.some index e) [
             | inl sooner ↦
@@ -58,6 +58,7 @@ returns c =
       trail = before.trail;
       extends = before.extends;
       watched = subst (λ (k : List Clause). AreWatched (length c.loop-index.placed.trail.slots.items) k c.loop-index.self) all before.watched;
+      none_aside = before.none_aside;
       found = before.found;
       guarded = λ e. subst (λ (k : List Clause). AllGuarded k c.loop-index.self.pairs.items (falses_of c.loop-index.placed.trail.steps.items) []) all (before.guarded e);
     }

@@ -3,6 +3,7 @@ use Rattle.sat_check.specs.Logs.{known_before}
 use Rattle.sat_search.specs.Trails.{falses_of}
 use Rattle.sat_search.specs.Propagation.{Extends, IsConflict}
 use Rattle.sat_search.specs.Watches.{IsTrail, AreWatched, AllGuarded}
+use Rattle.sat_search.specs.Beginning.{NoneIsAside}
 use Rattle.sat_search.proofs.watches.Watches.add_all.Given as goal
 
 abbrev pub invariant-loop-index : goal.invariant-loop-index
@@ -11,6 +12,7 @@ invariant-loop-index l = record {
   trail : IsTrail (known_before l.clauses []) l.placed;
   extends : Extends l.initial.placed.trail.steps.items l.placed.trail.steps.items;
   watched : AreWatched (length l.placed.trail.slots.items) (take l.index l.clauses) l.self;
+  none_aside : NoneIsAside l.self.pairs.items;
   found : (index : ℕ) → l.conflict ≡ Some index → IsConflict (known_before l.clauses []) (falses_of l.placed.trail.steps.items) index;
   guarded : l.conflict ≡ None → AllGuarded (take l.index l.clauses) l.self.pairs.items (falses_of l.placed.trail.steps.items) [];
 }

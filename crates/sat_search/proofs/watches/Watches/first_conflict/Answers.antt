@@ -1,9 +1,10 @@
-use Rattle.std.proofs.Common.{◌≡◌, ◌∙◌, true, false, List, Option, None, Some, [], refl, sym, subst}
+use Rattle.std.proofs.Common.{◌≡◌, ◌∙◌, true, false, List, Option, None, Some, refl, sym, subst}
 use Rattle.std.specs.Option.{is_some}
 use Rattle.std.proofs.lemmas.Option.{none-some}
 use Rattle.sat_search.specs.declared.trail.Step.{Step}
 use Rattle.sat_search.specs.Propagation.{Extends}
 use Rattle.sat_search.proofs.Settling.{Extends-both}
+use Rattle.sat_search.proofs.Flags.{NoneIsAside-flags}
 use Rattle.sat_search.proofs.watches.Watches.first_conflict.Goals as goal
 
 none_of : {X : Type 0} (o : Option X) → is_some o ≡ false → o ≡ None
@@ -26,6 +27,7 @@ returns-then-is_some c =
       trail = begun.trail;
       extends = subst (λ (s : List Step). Extends s steps) c.requires.steps begun.extends;
       watched = begun.watched;
+      none_aside = begun.none_aside;
       found = begun.found;
       guarded = λ e. absurd (some_of c.in_ok-begun.begun (sym c.is_some.ensures ∙ c.if-is_some.true) e);
     }
@@ -42,6 +44,7 @@ returns c =
       trail = it.advances.trail;
       extends = subst (λ (s : List Step). Extends s steps) c.requires.steps (Extends-both first mid steps begun.extends it.advances.extends);
       watched = it.advances.watched;
+      none_aside = NoneIsAside-flags c.add_all.new.self.pairs.items c.propagate.new.self.pairs.items it.advances.flags begun.none_aside;
       found = it.found;
       guarded = it.guarded;
     }

@@ -1,7 +1,8 @@
-use Rattle.std.proofs.Common.{◌≡◌, ◌∙◌, ◌⊎◌, ℕ, ◌+◌, ◌<◌, Bool, true, false, List, [], ◌∷◌, ◌++◌, Some, None, length, get_or, arith, refl, sym, ap, subst, inl, inr}
-use Rattle.std.specs.List.{All, Contains, slice_get}
+use Rattle.std.proofs.Common.{◌≡◌, ◌∙◌, ℕ, ◌+◌, ◌<◌, false, List, Some, None, length, get_or, arith, refl, sym, ap, subst, inl, inr}
+use Rattle.std.specs.List.{Contains, slice_get}
 use Rattle.std.proofs.lemmas.Bool.{false≢true}
-use Rattle.std.proofs.lemmas.Option.{slice_get_within, slice_get-get_or}
+use Rattle.std.proofs.lemmas.Option.{same_Some, slice_get_within, slice_get-get_or}
+use Rattle.std.proofs.lemmas.List.{length-set}
 use Rattle.std.proofs.lemmas.List.Elements.{All-contains}
 use Rattle.sat_check.specs.declared.clause.Lit.{Lit}
 use Rattle.sat_check.specs.declared.clause.Clause.{Clause}
@@ -15,10 +16,11 @@ use Rattle.sat_search.specs.declared.watches.Watcher.{Watcher}
 use Rattle.sat_search.specs.declared.watches.Pair.{Pair}
 use Rattle.sat_search.specs.declared.watches.Watches.{Watches}
 use Rattle.sat_search.specs.Trails.{Shows, falses_of}
-use Rattle.sat_search.specs.Watches.{AllGuarded, IsWatcher, watchers_of}
+use Rattle.sat_search.specs.Watches.{AllGuarded, flags_of, IsWatcher, watchers_of}
 use Rattle.sat_search.specs.Looks.{OtherIs}
 use Rattle.sat_search.proofs.Refuting.{false_below}
 use Rattle.sat_search.proofs.Looking.{Advances-none, Advances-rewatched, Look-true, Leaves-watched, Leaves-due, length-swap_remove}
+use Rattle.sat_search.proofs.Blocking.{Blocked-watched, Blocked-due}
 use Rattle.sat_search.proofs.watches.Watches.look.Goals as goal
 
 at_place : (watches : Watches) (f : Lit) (place : ℕ) (list : List Watcher) (d : Watcher) → list ≡ watchers_of watches f → place < length (watchers_of watches f) → slice_get (watchers_of watches f) place ≡ Some (get_or list place d)
@@ -115,7 +117,8 @@ returns-in_default c =
     let written = c.remove.ensures.1 in (
       Advances-rewatched known placed old new c.requires.trail
           (Leaves-watched (length placed.trail.slots.items) known old new f place watcher last pair c.requires.watched at paired other written)
-          (λ cut among all. subst (λ (ps : List Pair). AllGuarded known ps cut cut) (sym written.pairs) all),
+          (λ cut among all. subst (λ (ps : List Pair). AllGuarded known ps cut cut) (sym written.pairs) all)
+          (ap (λ (ps : List Pair). flags_of ps) written.pairs),
       λ before within due. Leaves-due known old new falses before f place watcher last pair at paired other written due,
       rw written.at (length-swap_remove (watchers_of old f) place last c.requires.within),
     )
@@ -161,11 +164,33 @@ returns-then-is_true-2 c =
     let stands : Contains is.clause.lits c.in-Some.other =
     elim other.1 [ inl e ↦ subst (Contains is.clause.lits) e.1 own.second_stands | inr e ↦ subst (Contains is.clause.lits) e.1 own.first_stands ] in
     let shows = subst (λ (s : List Slot). Shows s falses) (sym c.as_slice-2.ensures.value) c.requires.trail.keeps.shows in
-    let now : Contains falses (opposite_of c.in-Some.other) = (c.is_true-2.ensures falses shows).0 c.if-is_true-2.true in (
-      Advances-none known placed old c.requires.trail c.requires.watched,
-      λ before within due. Look-true known old falses before f place watcher is.clause at is.named (c.in-Some.other, stands, now) due,
-      refl,
+    let now : Contains falses (opposite_of c.in-Some.other) = (c.is_true-2.ensures falses shows).0 c.if-is_true-2.true in
+    let new = c.block.new.self in
+    let blocked = c.block.ensures.0 in
+    let at' : slice_get (watchers_of old f) place ≡ Some blocked = c.block.ensures.1 in
+    let written = c.block.ensures.2 in
+    let same : watcher ≡ blocked = same_Some watcher blocked (sym at ∙ at') in
+    let named : slice_get known blocked.index ≡ Some is.clause = subst (λ (w : Watcher). slice_get known w.index ≡ Some is.clause) same is.named in (
+      Advances-rewatched known placed old new c.requires.trail
+          (Blocked-watched known old new f place blocked c.in-Some.other at' written (length placed.trail.slots.items) is.clause named stands c.requires.watched)
+          (λ cut among all. subst (λ (ps : List Pair). AllGuarded known ps cut cut) (sym written.pairs) all)
+          (ap (λ (ps : List Pair). flags_of ps) written.pairs),
+      λ before within due. Blocked-due known old new f place blocked c.in-Some.other at' written falses before (place + 1)
+          (Look-true known old falses before f place watcher is.clause at is.named (c.in-Some.other, stands, now) due),
+      ap (λ (l : List Watcher). length l) written.at ∙ length-set (watchers_of old f) place (record { index = blocked.index; blocker = c.in-Some.other }),
     )
+
+pub block-requires-clause-positive : goal.block-requires-clause-positive
+block-requires-clause-positive c =
+    let placed = c.args.placed.now in
+    let known = known_before c.args.clauses.now c.args.entries.now in
+    omega (arith, c.requires.watched.positive_len, false_below known placed.trail.slots.items placed.trail.steps.items c.args.falsified c.requires.trail.keeps c.requires.is_false)
+
+pub block-requires-clause-negative : goal.block-requires-clause-negative
+block-requires-clause-negative c =
+    let placed = c.args.placed.now in
+    let known = known_before c.args.clauses.now c.args.entries.now in
+    omega (arith, c.requires.watched.negative_len, false_below known placed.trail.slots.items placed.trail.steps.items c.args.falsified c.requires.trail.keeps c.requires.is_false)
 
 pub look_on-requires-clause-at : goal.look_on-requires-clause-at
 look_on-requires-clause-at c =

@@ -1,8 +1,8 @@
-use Rattle.std.proofs.Common.{◌≡◌, ◌∙◌, ◌⊎◌, ℕ, ◌+◌, ◌<◌, Bool, true, false, List, [], ◌∷◌, ◌++◌, Some, length, get_or, arith, refl, sym, ap, subst, inl, inr}
+use Rattle.std.proofs.Common.{◌≡◌, ◌∙◌, ℕ, ◌<◌, true, List, Some, length, get_or, arith, refl, sym, ap, subst, inl, inr}
 use Rattle.std.specs.List.{All, Contains, slice_get}
 use Rattle.std.proofs.lemmas.Bool.{false≢true}
 use Rattle.std.proofs.lemmas.Option.{slice_get_within}
-use Rattle.std.proofs.lemmas.List.{length-set, map_push}
+use Rattle.std.proofs.lemmas.List.{length-set}
 use Rattle.std.proofs.lemmas.List.Elements.{All-contains, Contains-get_or, Contains-push}
 use Rattle.sat_check.specs.declared.clause.Lit.{Lit}
 use Rattle.sat_check.specs.declared.clause.Clause.{Clause}
@@ -12,11 +12,11 @@ use Rattle.sat_check.proofs.Walks.{known_below, below_at}
 use Rattle.sat_search.specs.declared.trail.Slot.{Slot}
 use Rattle.sat_search.specs.declared.trail.Step.{Step}
 use Rattle.sat_search.specs.Trails.{Shows, falses_of, IsStep}
-use Rattle.sat_search.specs.Watches.{Advances, AllDue, IsTrail, watchers_of}
+use Rattle.sat_search.specs.Watches.{Advances, IsTrail, watchers_of}
 use Rattle.sat_search.proofs.Settling.{IsStep-single}
 use Rattle.sat_search.proofs.Trails.{falses-push}
 use Rattle.sat_search.proofs.Refuting.{false_below}
-use Rattle.sat_search.proofs.Looking.{Advances-none, Advances-push, Advances-rewatched, Rewatched-watched, Rewatched-cuts, Rewatched-due, other_stands, length-swap_remove, IsTrail-push, Look-assigned}
+use Rattle.sat_search.proofs.Looking.{Advances-none, Advances-push, Advances-rewatched, Rewatched-watched, Rewatched-cuts, Rewatched-flags, Rewatched-due, length-swap_remove, IsTrail-push, Look-assigned}
 use Rattle.sat_search.proofs.watches.Watches.look_on.Goals as goal
 use Rattle.sat_search.proofs.watches.Watches.look_on.Goals.{In-Some}
 
@@ -86,7 +86,8 @@ returns-in-Some-replacement c =
     let not_false = found.2 falses shows in (
       Advances-rewatched known placed old new c.requires.trail
           (Rewatched-watched n known old new falses f c.args.place c.args.index c.args.other lit clause c.requires.watched at c.in-Some.ensures it found.0 found.1 not_false c.requires.is_false)
-          (Rewatched-cuts n known old new falses f c.args.place c.args.index c.args.other lit clause c.requires.watched at c.in-Some.ensures it found.0 found.1 not_false c.requires.is_false),
+          (Rewatched-cuts n known old new falses f c.args.place c.args.index c.args.other lit clause c.requires.watched at c.in-Some.ensures it found.0 found.1 not_false c.requires.is_false)
+          (Rewatched-flags n known old new falses f c.args.place c.args.index c.args.other lit clause c.requires.watched at c.in-Some.ensures it found.0 found.1 not_false c.requires.is_false),
       λ before within due. Rewatched-due n known old new falses f c.args.place c.args.index c.args.other lit clause c.requires.watched at c.in-Some.ensures it found.0 found.1 not_false c.requires.is_false before within due,
       rw it.fewer (length-swap_remove (watchers_of old f) c.args.place it.last (slice_get_within (watchers_of old f) c.args.place at.watcher at.at)),
     )

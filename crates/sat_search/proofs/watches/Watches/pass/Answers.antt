@@ -1,12 +1,9 @@
-use Rattle.std.proofs.Common.{◌≡◌, ◌∙◌, ℕ, ◌+◌, ◌<◌, ◌≤◌, List, length, arith, refl, sym, ap, subst}
-use Rattle.std.specs.List.{Contains}
-use Rattle.sat_check.specs.declared.clause.Lit.{Lit}
+use Rattle.std.proofs.Common.{◌≤◌, List, length, arith, ap, subst}
 use Rattle.sat_check.specs.Logs.{known_before}
 use Rattle.sat_search.specs.declared.watches.Watcher.{Watcher}
 use Rattle.sat_search.specs.declared.propagation.Look.{Look}
-use Rattle.sat_search.specs.declared.propagation.Look.TheVariants.{Stays, Leaves, Conflict}
 use Rattle.sat_search.specs.Trails.{falses_of}
-use Rattle.sat_search.specs.Watches.{AreWatched, Within, watchers_of}
+use Rattle.sat_search.specs.Watches.{watchers_of}
 use Rattle.sat_search.specs.Looks.{LookIs}
 use Rattle.sat_search.proofs.Refuting.{false_below}
 use Rattle.sat_search.proofs.Looking.{Advances-none, Advances-both, AllDue-start, AllDue-end, Extends-within}

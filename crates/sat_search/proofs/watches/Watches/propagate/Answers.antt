@@ -1,5 +1,5 @@
-use Rattle.std.proofs.Common.{◌≡◌, ◌∙◌, ℕ, suc, ◌+◌, ◌<◌, ◌≤◌, ◌∷◌, ◌++◌, [], List, Option, Some, None, length, take, arith, refl, sym, ap, subst, add-one}
-use Rattle.std.specs.List.{Contains, slice_get}
+use Rattle.std.proofs.Common.{◌≡◌, ◌∙◌, ℕ, suc, ◌+◌, ◌<◌, ◌∷◌, ◌++◌, [], List, Option, Some, length, take, arith, sym, ap, subst, add-one}
+use Rattle.std.specs.List.{slice_get}
 use Rattle.std.proofs.lemmas.Option.{none-some, same_Some, slice_get-get_or}
 use Rattle.sat_check.specs.declared.clause.Lit.{Lit}
 use Rattle.sat_check.specs.Logs.{known_before}
@@ -8,11 +8,11 @@ use Rattle.sat_search.specs.Trails.{falses_of}
 use Rattle.sat_search.specs.Propagation.{IsConflict}
 use Rattle.sat_search.specs.Watches.{AllGuarded}
 use Rattle.sat_search.specs.Looks.{PassIs}
-use Rattle.sat_search.proofs.Lists.{take_suc, take_within, take_whole}
+use Rattle.sat_search.proofs.Lists.{take_suc, take_within}
 use Rattle.sat_search.proofs.Places.{falses-take}
 use Rattle.sat_search.proofs.Trails.{falses-push}
 use Rattle.sat_search.proofs.Settling.{Extends-length}
-use Rattle.sat_search.proofs.Looking.{Advances-none, Advances-both}
+use Rattle.sat_search.proofs.Looking.{Advances-both}
 use Rattle.sat_search.proofs.watches.Watches.propagate.Goals as goal
 
 pub loop-head-preserved : goal.loop-head-preserved
@@ -50,5 +50,5 @@ returns-in-Some c =
     record {
       advances = Advances-both known first old new c.args.self.now c.loop-head.self c.pass.new.self c.loop-head.invariant.advances it.0;
       found = λ index e. subst (λ (o : ℕ). IsConflict known (falses_of new.trail.steps.items) o) (same_Some c.in-Some.conflict index e) it.1;
-      guarded = λ e. absurd (none-some c.in-Some.conflict (sym e));
+      guarded = λ e. absurd {A = AllGuarded known c.pass.new.self.pairs.items (falses_of new.trail.steps.items) (falses_of new.trail.steps.items)} (none-some c.in-Some.conflict (sym e));
     }

@@ -1,4 +1,4 @@
-use Rattle.std.proofs.Common.{◌≡◌, ℕ, ◌-◌, ◌≤◌, List, length, take}
+use Rattle.std.proofs.Common.{◌-◌, ◌≤◌, length, take}
 use Rattle.sat_check.specs.Logs.{known_before}
 use Rattle.sat_search.specs.Trails.{falses_of}
 use Rattle.sat_search.specs.Watches.{Advances, AllGuarded}
