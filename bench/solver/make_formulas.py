@@ -98,11 +98,24 @@ def words(family, width):
 
 
 def make(family, size, seed=0):
+    """A formula of the family. Of those that have one formula a size, a seed but 0 gives a variant."""
     if family == "random":
         return random_formula(size, seed)
-    if family == "pigeons":
-        return pigeons(size)
-    return words(family, size)
+    formula = pigeons(size) if family == "pigeons" else words(family, size)
+    return variant(formula, seed) if seed else formula
+
+
+def variant(formula, seed):
+    """The same formula under other names, with its clauses and their literals in another order."""
+    variables, clauses = formula
+    rng = random.Random(f"variant {seed}")
+    names = list(range(1, variables + 1))
+    rng.shuffle(names)
+    renamed = [[names[lit - 1] if lit > 0 else -names[-lit - 1] for lit in clause] for clause in clauses]
+    for clause in renamed:
+        rng.shuffle(clause)
+    rng.shuffle(renamed)
+    return variables, renamed
 
 
 def text_of(formula):

@@ -2,7 +2,7 @@
 """Runs sat_cli and the field's solvers over generated formulas: compares their answers, checks each
 model and each proof, and gives their times as ratios.
 
-    peers.py [--quick] [--answers N] [--conflicts N] [--limit SECONDS] PROGRAM
+    peers.py [--quick] [--answers N] [--conflicts N] [--limit SECONDS] [--rounds N] PROGRAM
 
 PROGRAM is the built sat_cli. Peers are minisat, picosat and cadical, where they are installed.
 Prints tables in Markdown; status 1 where any answer, model or proof is wrong.
@@ -27,7 +27,7 @@ PEERS = {
     "cadical": lambda cnf, out: ["cadical", "-q", cnf],
 }
 NAMES = {10: "sat", 20: "unsat", 0: "unknown"}
-# A shorter time says more of how a program starts than of its search.
+# A shorter median says more of how a program starts than of its search.
 LEAST = 0.01
 
 
@@ -50,7 +50,7 @@ class Run:
             self.answer = "time"
         else:
             self.answer = NAMES.get(done.returncode, f"status {done.returncode} {done.stderr.strip()}")
-        self.seconds = max(spent() - start, 0.001)
+        self.seconds = max(spent() - start, 0.0001)
 
 
 class Bench:
@@ -61,15 +61,28 @@ class Bench:
         self.proof = os.path.join(self.folder, "proof.lrat")
         self.result = os.path.join(self.folder, "result")
         self.peers = [peer for peer in PEERS if shutil.which(peer)]
+        self.starts = {solver: self.start(solver) for solver in ["sat_cli"] + self.peers}
         self.wrong = []
         self.models = self.proofs = self.compared = 0
 
-    def own(self):
-        """The answer of sat_cli, whose model or proof is checked."""
+    def command(self, solver):
+        if solver == "sat_cli":
+            return [self.options.program, "--conflicts", str(self.options.conflicts), self.cnf]
+        return PEERS[solver](self.cnf, self.result)
+
+    def start(self, solver):
+        """The least time of twenty runs on a formula of one clause: what a program takes to start."""
+        with open(self.cnf, "w") as file:
+            file.write("p cnf 1 1\n1 0\n")
+        return min(Run(self.command(solver), self.options.limit).seconds for _ in range(20))
+
+    def checked(self, name, formula):
+        """The answer of sat_cli with a file for the proof. The model or proof is checked."""
         if os.path.exists(self.proof):
             os.remove(self.proof)
-        limit = ["--conflicts", str(self.options.conflicts)]
-        return Run([self.options.program] + limit + [self.cnf, self.proof], self.options.limit)
+        run = Run(self.command("sat_cli") + [self.proof], self.options.limit)
+        self.check(name, formula, run)
+        return run
 
     def check(self, name, formula, run):
         if run.answer == "sat":
@@ -88,14 +101,20 @@ class Bench:
         if wrong:
             self.wrong.append(f"{name}: {wrong}")
 
-    def solve(self, name, formula):
-        """All solvers on one formula, in one go."""
+    def solve(self, name, formula, rounds=1):
+        """All solvers on one formula, in one go: the least time of so many rounds. None of them writes
+        a proof then; before that sat_cli writes one, which is checked."""
         with open(self.cnf, "w") as file:
             file.write(make_formulas.text_of(formula))
-        runs = {"sat_cli": self.own()}
-        self.check(name, formula, runs["sat_cli"])
-        for peer in self.peers:
-            runs[peer] = Run(PEERS[peer](self.cnf, self.result), self.options.limit)
+        first = self.checked(name, formula)
+        runs = {}
+        for _ in range(rounds):
+            for solver in ["sat_cli"] + self.peers:
+                run = Run(self.command(solver), self.options.limit)
+                if solver not in runs or run.seconds < runs[solver].seconds:
+                    runs[solver] = run
+        if runs["sat_cli"].answer != first.answer and "time" not in (first.answer, runs["sat_cli"].answer):
+            self.wrong.append(f"{name}: {first.answer} with a proof, {runs['sat_cli'].answer} without")
         answers = {solver: run.answer for solver, run in runs.items()}
         told = {answer for answer in answers.values() if answer in ("sat", "unsat")}
         if len(told) > 1:
@@ -121,14 +140,15 @@ def wrong_model(formula, out):
 
 def families(quick):
     """Each family with its sizes, and the seeds of each size."""
-    few, some = [0], range(3 if quick else 5)
+    some = range(3 if quick else 5)
+    few = range(1 if quick else 5)
     if quick:
         return {"random": [(n, some) for n in (20, 40, 60)], "pigeons": [(n, few) for n in (3, 4, 5)],
                 "sums": [(n, few) for n in (4, 6, 8)], "products": [(n, few) for n in (2, 3)],
                 "shifts": [(n, few) for n in (4, 8)]}
-    return {"random": [(n, some) for n in (50, 75, 100, 125, 150, 175, 200)], "pigeons": [(n, few) for n in range(3, 9)],
-            "sums": [(n, few) for n in (4, 8, 16, 32, 64, 128)], "products": [(n, few) for n in range(4, 9)],
-            "shifts": [(n, few) for n in (8, 16, 32, 64, 128)]}
+    return {"random": [(n, some) for n in (50, 75, 100, 125, 150, 175, 200, 225)], "pigeons": [(n, few) for n in range(3, 9)],
+            "sums": [(n, few) for n in (16, 32, 64, 128, 256)], "products": [(n, few) for n in range(4, 9)],
+            "shifts": [(n, few) for n in (16, 32, 64, 128, 256)]}
 
 
 def slope(points):
@@ -174,12 +194,14 @@ def shown(each):
     return ("≥ " if any(late for _, late in each) else "") + f"{mean([ratio for ratio, _ in each]):.2f}"
 
 
-def add_points(points, size, row):
-    """A formula counts for the growth where both answered it, and minisat not too fast to be measured."""
-    own, minisat = row["sat_cli"], row.get("minisat")
-    if minisat and {own.answer, minisat.answer} <= {"sat", "unsat"} and minisat.seconds >= LEAST:
-        points["sat_cli"].append((size, own.seconds))
-        points["minisat"].append((size, minisat.seconds))
+def add_points(points, size, rows, starts):
+    """The formulas of a size count for the growth where both answered them, unless minisat's median
+    there is too short to be measured. What the programs take to start doesn't grow, and is taken off."""
+    each = [(row["sat_cli"], row["minisat"]) for row in rows if "minisat" in row]
+    each = [pair for pair in each if {run.answer for run in pair} <= {"sat", "unsat"}]
+    if each and sorted(minisat.seconds for _, minisat in each)[len(each) // 2] >= LEAST:
+        points["sat_cli"] += [(size, max(own.seconds - starts["sat_cli"], 0.0001)) for own, _ in each]
+        points["minisat"] += [(size, max(minisat.seconds - starts["minisat"], 0.0001)) for _, minisat in each]
 
 
 def cell(run):
@@ -196,13 +218,12 @@ def time_families(bench, quick):
     for family, sizes in families(quick).items():
         points = growth[family] = {"sat_cli": [], "minisat": []}
         for size, seeds in sizes:
-            rows = [bench.solve(f"{family} {size} {seed}", make_formulas.make(family, size, seed)) for seed in seeds]
+            rows = [bench.solve(f"{family} {size} {seed}", make_formulas.make(family, size, seed), bench.options.rounds) for seed in seeds]
             middle = {s: sorted((row[s] for row in rows), key=lambda run: run.seconds)[len(rows) // 2] for s in solvers}
             each = [ratio_of(row, bench.options.limit) for row in rows if "minisat" in row]
             each = [ratio for ratio in each if ratio]
             ratios.setdefault(family, []).extend(each)
-            for row in rows:
-                add_points(points, size, row)
+            add_points(points, size, rows, bench.starts)
             answers = "/".join(sorted({row["sat_cli"].answer for row in rows}))
             ratio = shown(each)
             print(f"| {family} | {size} | {answers} | " + " | ".join(cell(middle[s]) for s in solvers) + f" | {ratio} |", flush=True)
@@ -211,11 +232,15 @@ def time_families(bench, quick):
     for family, each in ratios.items():
         print(f"| {family} | {len(each)} | {sum(late for _, late in each)} | {shown(each)} |")
     print()
-    show_growth(growth)
+    show_growth(growth, bench.starts)
 
 
-def show_growth(growth):
-    print(f"Growth: by how much the logarithm of the time rises with one more of size, where both answered, minisat in {LEAST} s or more.\n")
+def show_growth(growth, starts):
+    print("To start they take " + ", ".join(f"{solver} {seconds:.4f} s" for solver, seconds in starts.items()) + ".\n")
+    print(
+        "Growth: by how much the logarithm of the time, without that of the start, rises with one more of size, over "
+        f"the formulas that both answered, of the sizes where minisat's median is {LEAST} s or more.\n"
+    )
     print("| family | sizes | formulas | sat_cli | minisat |\n|---|---|---|---|---|")
     for family, points in growth.items():
         sizes = " ".join(str(size) for size in sorted({size for size, _ in points["minisat"]}))
@@ -231,6 +256,7 @@ def main():
     parser.add_argument("--answers", type=int)
     parser.add_argument("--conflicts", type=int, default=100000)
     parser.add_argument("--limit", type=int)
+    parser.add_argument("--rounds", type=int, default=3)
     options = parser.parse_args()
     if options.limit is None:
         options.limit = 10 if options.quick else 60
