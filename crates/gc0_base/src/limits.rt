@@ -1,3 +1,5 @@
+//! The limits of the project: how large a program, a run and a query may be.
+
 /// The limits of the project. A program within them is compiled, one past them is refused.
 pub struct Limits;
 

@@ -1,3 +1,5 @@
+//! Places in a text.
+
 /// A place in a text: its line and its column, both counted from 1. A column counts bytes.
 #[derive(Clone, Copy, Debug, PartialEq, Eq)]
 pub struct Place {

@@ -1,3 +1,5 @@
+//! The sites of a program, what is decided there, and how a run ends.
+
 use crate::word::Word;
 
 /// What is decided at a site.

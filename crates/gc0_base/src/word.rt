@@ -1,3 +1,5 @@
+//! Words of 32 bits, and the operators on them.
+
 ghost use Rattle.std.specs.Prelude.{◌≡◌, Bool, true, false, not, if◌then◌else◌, Some, None};
 ghost use Rattle.gc0_base.specs.Words.{word_sum, word_difference, word_product, word_and, word_or, word_xor, word_negation, word_complement, signed, word_less, is_negative, word_magnitude, with_sign, differ, has_quotient, word_quotient, word_remainder, is_amount, word_left, word_right, quotient_of, remainder_of, left_of, right_of};
 

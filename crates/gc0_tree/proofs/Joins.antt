@@ -1,5 +1,5 @@
 -- What several pushes add, one after the other.
-use Rattle.std.proofs.Common.{◌≡◌, List, ◌++◌, OnOk, Ok, Err, Result, refl, sym, ap, ◌∙◌, append_assoc}
+use Rattle.std.proofs.Common.{◌≡◌, List, ◌++◌, OnOk, Ok, Err, Result, sym, ap, ◌∙◌, append_assoc}
 
 pub joined_2 : {X E : Type 0} (r : Result (Unit {0}) E) (new mid old a b all : List X) → OnOk r (new ≡ mid ++ b) → mid ≡ old ++ a → all ≡ a ++ b → OnOk r (new ≡ old ++ all)
 joined_2 (Err e) new mid old a b all h m g = tt

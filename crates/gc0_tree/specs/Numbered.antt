@@ -1,5 +1,5 @@
 -- A list of places that numbers the sites of one kind.
-use Rattle.std.specs.Prelude.{◌≡◌, ℕ, ◌<◌, ◌^◌, List, length, count_by}
+use Rattle.std.specs.Prelude.{◌≡◌, ◌<◌, ◌^◌, List, length, count_by}
 use Rattle.std.specs.List.Sorted.{IsNonDecreasingBy}
 use Rattle.gc0_base.specs.declared.place.Place.{Place}
 use Rattle.gc0_base.specs.declared.site.Kind.{Kind}

@@ -4,6 +4,7 @@
 //! values, so that trees can be compared.
 #![tactic(auto)]
 
+mod calls;
 mod numbers;
 mod places;
 mod tokens;

@@ -1,6 +1,5 @@
-use Rattle.std.proofs.Common.{rules, arith, ◌≡◌, ap, ◌∙◌, cond, List, length, count_by}
+use Rattle.std.proofs.Common.{rules, ap, ◌∙◌, cond, count_by}
 use Rattle.std.proofs.lemmas.List.Sorted.{IsNonDecreasingBy-from_sort_by_key, sum_by-IsPermutation}
-use Rattle.gc0_base.specs.declared.place.Place.{Place}
 use Rattle.gc0_tree.specs.Sites.{text_key, is_before}
 use Rattle.gc0_tree.proofs.numbers.sorted_places.Goals as goal
 

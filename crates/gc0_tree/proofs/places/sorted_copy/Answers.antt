@@ -1,4 +1,4 @@
-use Rattle.std.proofs.Common.{rules, arith, ◌≡◌, ap, ◌∙◌, cond, count_by, sym}
+use Rattle.std.proofs.Common.{rules, ap, ◌∙◌, cond, count_by}
 use Rattle.std.proofs.lemmas.List.Sorted.{IsNonDecreasingBy-from_sort_by_key, sum_by-IsPermutation}
 use Rattle.gc0_tree.specs.Sites.{text_key}
 use Rattle.gc0_tree.proofs.places.sorted_copy.Goals as goal
