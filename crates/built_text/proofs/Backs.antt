@@ -58,7 +58,7 @@ pub record AtWhole (f : Bool) (room : ℕ) (K : ExprTree → List Token → Type
 pub whole : (f : Bool) (room : ℕ) (next : ExprTree → Plan) (ts : List Token) (p : ProgramTree) → Takes (expr f room next) ts p → AtWhole f room (λ e rest. Takes (next e) rest p) ts
 whole f room next ts p x =
     let y = leaves 4 f room most_operators (λ e l. next e) ts p x in
-    let short : operators y.w ≤ 1000 = omega (arith, y.count) in
+    let short : operators y.w ≤ most_operators = omega (arith, y.count) in
     record { w = y.w; rest = y.rest; good = record { good = y.good; short = short }; split = y.split; after = y.after }
 
 deeper_is : (room : ℕ) (plan : ℕ → Plan) (ts : List Token) (p : ProgramTree) → TakesNext (deeper room plan) ts p → (r : ℕ) × (room ≡ suc r) × Takes (plan r) ts p

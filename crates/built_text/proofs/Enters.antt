@@ -140,10 +140,10 @@ reading (round a x b) = flat (round a x b) (round_base a x b (reading x))
 -- a whole expression, in front of what is no operator
 pub expr_enters : (f : Bool) (room : ℕ) (next : ExprTree → Plan) (w : Written) (rest : List Token) → GoodExpr f room w → Free 4 rest → run (expr f room next) (spell w rest) ≡ run (next (tree_of w)) rest
 expr_enters f room next w rest g free =
-    let short : operators w ≤ 1000 = g.short in
-    let count : most_operators ≡ operators w + (1000 - operators w) = omega (arith, short) in
+    let short : operators w ≤ most_operators = g.short in
+    let count : most_operators ≡ operators w + (most_operators - operators w) = omega (arith, short) in
     ap (λ n. run (climb 4 f room n (λ e l. next e)) (spell w rest)) count
-    ∙ (reading w).enters f room g.good 4 (height_low w) (1000 - operators w) (λ e l. next e) rest free
+    ∙ (reading w).enters f room g.good 4 (height_low w) (most_operators - operators w) (λ e l. next e) rest free
 
 expr_mark : (f : Bool) (room : ℕ) (next : ExprTree → Plan) (w : Written) (k : Fixed) (at : Place) (rest : List Token) → GoodExpr f room w → operator_of k ≡ None → run (expr f room next) (spell w (fixed k at ∷ rest)) ≡ run (next (tree_of w)) (fixed k at ∷ rest)
 expr_mark f room next w k at rest g e = expr_enters f room next w (fixed k at ∷ rest) g (free_mark k at rest 4 e)

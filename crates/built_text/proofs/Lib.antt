@@ -1,3 +1,4 @@
+-- The lemmas of this crate.
 pub mod Marks
 pub mod Takes
 pub mod Backs

@@ -70,7 +70,8 @@ IsBuiltRight e = IsBuiltValue false e
 
 -- a call, or one that prints its one argument
 abbrev pub IsBuiltCall : ExprTree → Type 0
-IsBuiltCall (call s n (expr_and x no_exprs)) = IsBuiltValue false x × ((is_printed n ≡ true) ⊎ (is_library n ≡ false))
+IsBuiltCall (call s n (expr_and x no_exprs)) =
+    IsBuiltValue false x × ((is_printed n ≡ true) ⊎ (is_library n ≡ false))
 IsBuiltCall (call s n xs) = AreBuiltValues xs × (is_library n ≡ false)
 IsBuiltCall e = ⊥
 
@@ -124,8 +125,10 @@ abbrev mutual
   pub IsBuiltStmt : StmtTree → Type 0
   IsBuiltStmt (simple_stmt s) = IsBuiltSimple s
   IsBuiltStmt (if_stmt p e (block_stmt q ss) no_stmts) = IsBuiltValue false e × AreBuiltStmts ss
-  IsBuiltStmt (if_stmt p e (block_stmt q ss) (stmt_and (block_stmt r os) no_stmts)) = IsBuiltValue false e × AreBuiltStmts ss × AreBuiltStmts os
-  IsBuiltStmt (while_stmt p e is (block_stmt q ss)) = IsBuiltValue false e × AreAll AreBuiltInvariants is × AreBuiltStmts ss
+  IsBuiltStmt (if_stmt p e (block_stmt q ss) (stmt_and (block_stmt r os) no_stmts)) =
+      IsBuiltValue false e × AreBuiltStmts ss × AreBuiltStmts os
+  IsBuiltStmt (while_stmt p e is (block_stmt q ss)) =
+      IsBuiltValue false e × AreAll AreBuiltInvariants is × AreBuiltStmts ss
   IsBuiltStmt (return_stmt p (Some e)) = IsBuiltValue false e
   IsBuiltStmt (notes_stmt p (n ∷ [])) = IsBuiltNote n
   IsBuiltStmt s = ⊥
@@ -162,7 +165,9 @@ IsBuiltResult (result.Void p) = ⊥
 IsBuiltResult (result.Typed t) = IsPlainType t
 
 abbrev pub IsBuiltItem : ItemTree → Type 0
-IsBuiltItem (function_item h cs ss close) = IsBuiltResult h.result × AreAll IsBuiltParam h.params × AreAll IsBuiltContract cs × AreBuiltStmts ss × (ends_in_return ss ≡ true)
+IsBuiltItem (function_item h cs ss close) =
+    IsBuiltResult h.result × AreAll IsBuiltParam h.params × AreAll IsBuiltContract cs
+    × AreBuiltStmts ss × (ends_in_return ss ≡ true)
 IsBuiltItem i = ⊥
 
 -- functions alone, in these forms
@@ -171,4 +176,6 @@ IsBuiltProgram p = AreAll IsBuiltItem p.items
 
 -- a text of the small grammar has, in the whole grammar, a tree of these forms
 abbrev pub IsBuiltLaw : Type 0
-IsBuiltLaw = (ts : List LexToken) (p : SmallTree) (w : ProgramTree) (nodes : ℕ) → IsSmallProgram (all_built ts) p → IsProgram (all_seen ts) w nodes → IsBuiltProgram w
+IsBuiltLaw =
+    (ts : List LexToken) (p : SmallTree) (w : ProgramTree) (nodes : ℕ)
+    → IsSmallProgram (all_built ts) p → IsProgram (all_seen ts) w nodes → IsBuiltProgram w

@@ -1,9 +1,10 @@
 -- The grammar: what can be written, its tokens, and the tree that it means. A text is described
 -- with all that the tree leaves out: its parentheses, and the place of each token (a part of the
 -- grammar of the C0 Reference, with the annotations of Gradual C0).
-use Rattle.std.specs.Prelude.{◌≡◌, ℕ, zero, suc, ◌+◌, ◌≤◌, Bool, true, false, List, [], ◌∷◌}
+use Rattle.std.specs.Prelude.{◌≡◌, ℕ, zero, suc, ◌+◌, ◌-◌, ◌≤◌, Bool, true, false, List, [], ◌∷◌}
 use Rattle.gc0_base.specs.declared.place.Place.{Place}
 use Rattle.gc0_base.specs.declared.word.Word.{Word}
+use Rattle.gc0_base.specs.declared.limits.TheConstants.Limits as limits
 use Rattle.built_text.specs.declared.token.Token.{Token}
 use Rattle.built_text.specs.declared.token.Kind.{Kind}
 use Rattle.built_text.specs.declared.token.Kind.TheVariants.{Known, Name, Number, End}
@@ -136,20 +137,22 @@ Good f room (truth_word at b) = Unit {0}
 Good f room (word at n) = Unit {0}
 Good f room (result_word at) = f ≡ true
 Good f room (before at o x) = Deeper room (λ r. Good f r x × (height x ≡ 0))
-Good f room (between x at o y) = Good f room x × Good f room y × (height x ≤ suc (rank o)) × (height y ≤ rank o)
+Good f room (between x at o y) =
+    Good f room x × Good f room y × (height x ≤ suc (rank o)) × (height y ≤ rank o)
 Good f room (round a x b) = Deeper room (λ r. Good f r x)
 
--- how many operators between two expressions one expression may have
+-- how many operators between two expressions one expression may have: as many as a source text has
+-- bytes, so no text within the limits has more
 abbrev pub most_operators : ℕ
-most_operators = 1000
+most_operators = limits.SOURCE
 
 -- how deep `!`, `-`, `(` and blocks may nest
 abbrev pub most_nested : ℕ
-most_nested = 100
+most_nested = limits.NESTING
 
 -- how deep they may nest in a function's body, which is a block itself
 abbrev pub body_room : ℕ
-body_room = 99
+body_room = most_nested - 1
 
 pub record GoodExpr (ensures : Bool) (room : ℕ) (x : Written) : Type 0 where
   pub good : Good ensures room x
@@ -197,7 +200,8 @@ pub record CallText : Type 0 where
   pub b : Place
 
 abbrev pub spell_call : CallText → List Token → List Token
-spell_call c rest = token (Name c.name) c.at ∷ fixed mark.Open c.a ∷ spell_args c.args (fixed mark.Close c.b ∷ rest)
+spell_call c rest =
+    token (Name c.name) c.at ∷ fixed mark.Open c.a ∷ spell_args c.args (fixed mark.Close c.b ∷ rest)
 
 abbrev pub named_at : Place → List ℕ → Named
 named_at at n = record { name = n; place = at }
@@ -268,13 +272,15 @@ GoodNotes room (n ∷ ns) = GoodFormula false room n.formula × GoodNotes room n
 -- ---- statements
 mutual
   pub data Line : Type 0 where
-    declares : (t : Place) → Shape → (n : Place) → List ℕ → (q : Place) → RightText → (c : Place) → Line
+    declares : (t : Place) → Shape → (n : Place) → List ℕ → (q : Place) → RightText → (c : Place)
+        → Line
     assigns : (n : Place) → List ℕ → (q : Place) → RightText → (c : Place) → Line
     calls : CallText → (c : Place) → Line
     prints : (p : Place) → Shape → (a : Place) → Written → (b c : Place) → Line
     returns : (r : Place) → Written → (c : Place) → Line
     ifs : (i a : Place) → Written → (b o : Place) → Lines → (e : Place) → Otherwise → Line
-    whiles : (w a : Place) → Written → (b : Place) → List NoteText → (o : Place) → Lines → (e : Place) → Line
+    whiles : (w a : Place) → Written → (b : Place) → List NoteText → (o : Place) → Lines
+        → (e : Place) → Line
     asserts : NoteText → Line
 
   pub data Otherwise : Type 0 where
@@ -288,7 +294,8 @@ mutual
 abbrev mutual
   pub spell_line : Line → List Token → List Token
   spell_line (declares t s n name q r c) rest = fixed (type_word s) t ∷ token (Name name) n ∷ fixed mark.Assign q ∷ spell_right r (fixed mark.Semicolon c ∷ rest)
-  spell_line (assigns n name q r c) rest = token (Name name) n ∷ fixed mark.Assign q ∷ spell_right r (fixed mark.Semicolon c ∷ rest)
+  spell_line (assigns n name q r c) rest =
+      token (Name name) n ∷ fixed mark.Assign q ∷ spell_right r (fixed mark.Semicolon c ∷ rest)
   spell_line (calls k c) rest = spell_call k (fixed mark.Semicolon c ∷ rest)
   spell_line (prints p s a x b c) rest = fixed (print_word s) p ∷ fixed mark.Open a ∷ spell x (fixed mark.Close b ∷ fixed mark.Semicolon c ∷ rest)
   spell_line (returns r x c) rest = fixed mark.Return r ∷ spell x (fixed mark.Semicolon c ∷ rest)
@@ -298,7 +305,8 @@ abbrev mutual
 
   pub spell_otherwise : Otherwise → List Token → List Token
   spell_otherwise no_else rest = rest
-  spell_otherwise (elses s o ls e) rest = fixed mark.Else s ∷ fixed mark.OpenBrace o ∷ spell_lines ls (fixed mark.CloseBrace e ∷ rest)
+  spell_otherwise (elses s o ls e) rest =
+      fixed mark.Else s ∷ fixed mark.OpenBrace o ∷ spell_lines ls (fixed mark.CloseBrace e ∷ rest)
 
   pub spell_lines : Lines → List Token → List Token
   spell_lines no_lines rest = rest
@@ -333,8 +341,10 @@ abbrev mutual
   GoodLine room (calls k c) = GoodArgs room k.args
   GoodLine room (prints p s a x b c) = GoodExpr false room x
   GoodLine room (returns r x c) = GoodExpr false room x
-  GoodLine room (ifs i a x b o ls e m) = GoodExpr false room x × Deeper room (λ r. GoodLines r ls × GoodOtherwise r m)
-  GoodLine room (whiles w a x b ns o ls e) = GoodExpr false room x × GoodNotes room ns × Deeper room (λ r. GoodLines r ls)
+  GoodLine room (ifs i a x b o ls e m) =
+      GoodExpr false room x × Deeper room (λ r. GoodLines r ls × GoodOtherwise r m)
+  GoodLine room (whiles w a x b ns o ls e) =
+      GoodExpr false room x × GoodNotes room ns × Deeper room (λ r. GoodLines r ls)
   GoodLine room (asserts n) = GoodFormula false room n.formula
 
   pub GoodOtherwise : (room : ℕ) → Otherwise → Type 0

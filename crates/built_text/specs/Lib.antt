@@ -1,3 +1,4 @@
+-- The definitions of this crate.
 pub mod Tree
 pub mod Views
 pub mod Tokens
@@ -5,3 +6,4 @@ pub mod Grammar
 pub mod Reads
 pub mod Plan
 pub mod Forms
+pub mod Answers

@@ -130,27 +130,35 @@ abbrev pub deeper : ℕ → (ℕ → Plan) → Option Plan
 deeper zero next = None
 deeper (suc room) next = Some (next room)
 
-abbrev pub operand_step : Bool → (room left : ℕ) → (ExprTree → ℕ → Plan) → Kind → Place → Option Plan
+abbrev pub operand_step : Bool → (room left : ℕ) → (ExprTree → ℕ → Plan) → Kind → Place
+    → Option Plan
 operand_step f room left next (Number w) at = Some (next (number (spot at) w) left)
 operand_step f room left next (Name n) at = Some (next (local (spot at) n) left)
 operand_step f room left next (Known mark.True) at = Some (next (truth (spot at) true) left)
 operand_step f room left next (Known mark.False) at = Some (next (truth (spot at) false) left)
-operand_step f room left next (Known mark.Outcome) at = cond f (Some (next (outcome (spot at)) left)) None
-operand_step f room left next (Known mark.Not) at = deeper room (λ r. operand f r left (λ e l. next (unary (spot at) unary_op.Not e) l))
-operand_step f room left next (Known mark.Minus) at = deeper room (λ r. operand f r left (λ e l. next (unary (spot at) unary_op.Negate e) l))
-operand_step f room left next (Known mark.Open) at = deeper room (λ r. climb 4 f r left (λ e l. await mark.Close (λ b. next (from at e) l)))
+operand_step f room left next (Known mark.Outcome) at =
+    cond f (Some (next (outcome (spot at)) left)) None
+operand_step f room left next (Known mark.Not) at =
+    deeper room (λ r. operand f r left (λ e l. next (unary (spot at) unary_op.Not e) l))
+operand_step f room left next (Known mark.Minus) at =
+    deeper room (λ r. operand f r left (λ e l. next (unary (spot at) unary_op.Negate e) l))
+operand_step f room left next (Known mark.Open) at =
+    deeper room (λ r. climb 4 f r left (λ e l. await mark.Close (λ b. next (from at e) l)))
 operand_step f room left next k at = None
 
-abbrev pub ops_step : ℕ → Bool → (room left : ℕ) → ExprTree → (ExprTree → ℕ → Plan) → Option Plan → Option Operator → Place → Option Plan
+abbrev pub ops_step : ℕ → Bool → (room left : ℕ) → ExprTree → (ExprTree → ℕ → Plan) → Option Plan
+    → Option Operator → Place → Option Plan
 ops_step r f room left e next other None at = other
-ops_step r f room left e next other (Some o) at = deeper left (λ l. climb r f room l (λ e' l'. ops r f room l' (joined at o e e') next))
+ops_step r f room left e next other (Some o) at =
+    deeper left (λ l. climb r f room l (λ e' l'. ops r f room l' (joined at o e e') next))
 
 abbrev pub arguments : ℕ → (List ExprTree → Plan) → Plan
 arguments room next = peek mark.Close (λ b. next []) (expr false room (λ e. chain mark.Comma false room (λ es. await mark.Close (λ b. next (e ∷ es)))))
 
 -- behind the name of a call and its parenthesis
 abbrev pub called : Place → List ℕ → ℕ → (CallTree → Plan) → Plan
-called at n room next = arguments room (λ es. next (record { name = named_at at n; arguments = es }))
+called at n room next =
+    arguments room (λ es. next (record { name = named_at at n; arguments = es }))
 
 -- behind a name on a right side: a call, or the rest of an expression
 abbrev pub behind_name : Place → List ℕ → ℕ → (RightTree → Plan) → Plan
@@ -158,7 +166,8 @@ behind_name at n room next = peek mark.Open (λ a. called at n room (λ c. next 
 
 abbrev pub right_step : ℕ → (RightTree → Plan) → Kind → Place → Option Plan
 right_step room next (Name n) at = Some (behind_name at n room next)
-right_step room next k at = operand_step false room most_operators (behind 4 false room (λ e left. next (value e))) k at
+right_step room next k at =
+    operand_step false room most_operators (behind 4 false room (λ e left. next (value e))) k at
 
 abbrev pub formula : Bool → ℕ → (FormulaTree → Plan) → Plan
 formula f room next =
@@ -177,7 +186,8 @@ clause next =
 
 -- the rest of a statement that assigns: `=`, a right side and `;`
 abbrev pub assigned : ℕ → (Place → RightTree → Plan) → Plan
-assigned room next = await mark.Assign (λ q. right_side room (λ r. await mark.Semicolon (λ c. next q r)))
+assigned room next =
+    await mark.Assign (λ q. right_side room (λ r. await mark.Semicolon (λ c. next q r)))
 
 -- a condition in parentheses
 abbrev pub condition : ℕ → (ExprTree → Plan) → Plan
@@ -204,10 +214,12 @@ returned room next at = expr false room (λ e. await mark.Semicolon (λ c. next 
 
 -- the blocks have one level less
 abbrev pub conditional : (room less : ℕ) → (StmtTree → Plan) → Place → Plan
-conditional room less next at = condition room (λ e. block less (λ ss. otherwise less (λ os. next (if_stmt at e ss os))))
+conditional room less next at =
+    condition room (λ e. block less (λ ss. otherwise less (λ os. next (if_stmt at e ss os))))
 
 abbrev pub looped : (room less : ℕ) → (StmtTree → Plan) → Place → Plan
-looped room less next at = condition room (λ e. notes room (λ ns. block less (λ ss. next (while_stmt at e ns ss))))
+looped room less next at =
+    condition room (λ e. notes room (λ ns. block less (λ ss. next (while_stmt at e ns ss))))
 
 abbrev pub asserted : ℕ → (StmtTree → Plan) → Plan
 asserted room next = await mark.Assert (λ w. noted false room w (λ n. next (assert_stmt n)))
@@ -230,9 +242,11 @@ line_step room next k at = None
 
 -- behind a statement
 abbrev pub after_line : ℕ → Bool → (StmtTrees → Place → Plan) → StmtTree → Plan
-after_line room any next s = lines room any (cond any true (is_return s)) (λ ss e. next (stmt s ss) e)
+after_line room any next s =
+    lines room any (cond any true (is_return s)) (λ ss e. next (stmt s ss) e)
 
-abbrev pub lines_step : ℕ → (any now : Bool) → (StmtTrees → Place → Plan) → Kind → Place → Option Plan
+abbrev pub lines_step : ℕ → (any now : Bool) → (StmtTrees → Place → Plan) → Kind → Place
+    → Option Plan
 lines_step room any now next (Known mark.CloseBrace) at = cond now (Some (next no_stmts at)) None
 lines_step room any now next k at = line_step room (after_line room any next) k at
 
@@ -240,11 +254,13 @@ abbrev pub parameter_plan : (Parameter → Plan) → Plan
 parameter_plan next = typed (λ t. named (λ n. next (record { typed = t; name = n })))
 
 abbrev pub parameters_plan : (List Parameter → Plan) → Plan
-parameters_plan next = peek mark.Close (λ b. next []) (parameter_plan (λ p. more_parameters (λ ps. next (p ∷ ps))))
+parameters_plan next =
+    peek mark.Close (λ b. next []) (parameter_plan (λ p. more_parameters (λ ps. next (p ∷ ps))))
 
 abbrev pub more_step : (List Parameter → Plan) → Kind → Option Plan
 more_step next (Known mark.Close) = Some (next [])
-more_step next (Known mark.Comma) = Some (parameter_plan (λ p. more_parameters (λ ps. next (p ∷ ps))))
+more_step next (Known mark.Comma) =
+    Some (parameter_plan (λ p. more_parameters (λ ps. next (p ∷ ps))))
 more_step next k = None
 
 -- a function's body, which is a block whose last statement is a `return`
@@ -265,8 +281,10 @@ is_end k = false
 
 abbrev pub functions_step : (List FunctionTree → Plan) → Kind → Place → Option Plan
 functions_step next End at = Some (next [])
-functions_step next (Known mark.Int) at = Some (function (after_function next) (typed_at at shape.Int))
-functions_step next (Known mark.Bool) at = Some (function (after_function next) (typed_at at shape.Bool))
+functions_step next (Known mark.Int) at =
+    Some (function (after_function next) (typed_at at shape.Int))
+functions_step next (Known mark.Bool) at =
+    Some (function (after_function next) (typed_at at shape.Bool))
 functions_step next k at = None
 
 abbrev pub named_step : (Named → Plan) → Kind → Place → Option Plan
@@ -295,11 +313,14 @@ step (named next) t = named_step next t.kind t.place
 step (typed next) t = typed_step next t.kind t.place
 step (peek f these others) t = cond (is f t.kind) (Some (these t.place)) (step others t)
 step (operand f room left next) t = operand_step f room left next t.kind t.place
-step (ops r f room left e next) t = ops_step r f room left e next (step (next e left) t) (of_rank r (operator_at t.kind)) t.place
-step (chain s f room next) t = cond (is s t.kind) (Some (expr f room (after_link s f room next))) (step (next []) t)
+step (ops r f room left e next) t =
+    ops_step r f room left e next (step (next e left) t) (of_rank r (operator_at t.kind)) t.place
+step (chain s f room next) t =
+    cond (is s t.kind) (Some (expr f room (after_link s f room next))) (step (next []) t)
 step (right_side room next) t = right_step room next t.kind t.place
 step (notes room next) t = cond (is mark.Annotation t.kind) (Some (invariant room (after_note room next))) (step (next []) t)
-step (contract next) t = cond (is mark.Annotation t.kind) (Some (clause (after_clause next))) (step (next []) t)
+step (contract next) t =
+    cond (is mark.Annotation t.kind) (Some (clause (after_clause next))) (step (next []) t)
 step (lines room any now next) t = lines_step room any now next t.kind t.place
 step (more_parameters next) t = more_step next t.kind
 step (functions next) t = functions_step next t.kind t.place
@@ -365,6 +386,7 @@ FailsAs whole (NotBuilt at) = whole ≡ Err at
 FailsAs whole Memory = Unit {0}
 
 -- what a part of the reading answers: what the rest gives, or the fault of the whole
-abbrev pub Answers : {X : Type 0} → (X → Result ProgramTree Place) → Result ProgramTree Place → Result X ReadFault → Type 0
+abbrev pub Answers : {X : Type 0} → (X → Result ProgramTree Place) → Result ProgramTree Place
+    → Result X ReadFault → Type 0
 Answers rest whole (Ok x) = whole ≡ rest x
 Answers rest whole (Err e) = FailsAs whole e

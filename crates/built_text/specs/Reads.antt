@@ -1,12 +1,10 @@
 -- What tokens are read as, and where they first go wrong.
-use Rattle.std.specs.Prelude.{◌≡◌, ◌⊎◌, List, [], ◌∷◌, ◌++◌, Result, Ok, Err}
+use Rattle.std.specs.Prelude.{◌≡◌, ◌⊎◌, List, [], ◌∷◌, ◌++◌}
 use Rattle.gc0_base.specs.declared.place.Place.{Place}
 use Rattle.built_text.specs.declared.token.Token.{Token}
-use Rattle.built_text.specs.declared.tree.Program.{Program}
 use Rattle.built_text.specs.declared.tree.ReadFault.{ReadFault}
 use Rattle.built_text.specs.declared.tree.ReadFault.TheVariants.{NotBuilt, Memory}
 use Rattle.built_text.specs.Tree.{ProgramTree}
-use Rattle.built_text.specs.Views.{program_view}
 use Rattle.built_text.specs.Tokens.{EndsLast}
 use Rattle.built_text.specs.Grammar.{IsProgram}
 
@@ -29,23 +27,18 @@ abbrev pub HasReadCause : List Token → ReadFault → Type 0
 HasReadCause ts (NotBuilt place) = FirstFault ts place
 HasReadCause ts Memory = Unit {0}
 
-abbrev pub IsMemory : ReadFault → Type 0
-IsMemory (NotBuilt place) = ⊥
-IsMemory Memory = Unit {0}
-
--- exactly this tree, or want of memory
-abbrev pub GivesOrMemory : ProgramTree → Result Program ReadFault → Type 0
-GivesOrMemory p (Ok q) = program_view q ≡ p
-GivesOrMemory p (Err e) = IsMemory e
-
 -- tokens have at most one tree
 abbrev pub OneTree : Type 0
 OneTree = (ts : List Token) (p q : ProgramTree) → IsProgram ts p → IsProgram ts q → p ≡ q
 
 -- tokens have at most one first fault, and those that have a tree have none
 abbrev pub OneFault : Type 0
-OneFault = ((ts : List Token) (a b : Place) → FirstFault ts a → FirstFault ts b → a ≡ b) × ((ts : List Token) (p : ProgramTree) (a : Place) → IsProgram ts p → FirstFault ts a → ⊥)
+OneFault =
+    ((ts : List Token) (a b : Place) → FirstFault ts a → FirstFault ts b → a ≡ b)
+    × ((ts : List Token) (p : ProgramTree) (a : Place) → IsProgram ts p → FirstFault ts a → ⊥)
 
 -- tokens that end with the end of the text have a tree or a first fault
 abbrev pub EachTokens : Type 0
-EachTokens = (ts : List Token) → EndsLast ts → ((p : ProgramTree) × IsProgram ts p) ⊎ ((at : Place) × FirstFault ts at)
+EachTokens =
+    (ts : List Token) → EndsLast ts
+    → ((p : ProgramTree) × IsProgram ts p) ⊎ ((at : Place) × FirstFault ts at)

@@ -97,4 +97,5 @@ pub record EndsLast (ts : List Token) : Type 0 where
 
 -- the tokens that a text is cut into end with its end
 abbrev pub CutEndsLast : Type 0
-CutEndsLast = (text : List ℕ) (ls : List Lexeme) → HasTokens text ls → EndsLast (map built_lexeme ls)
+CutEndsLast =
+    (text : List ℕ) (ls : List Lexeme) → HasTokens text ls → EndsLast (map built_lexeme ls)

@@ -1,3 +1,5 @@
+//! What stands first among the tokens.
+
 ghost use Rattle.std.specs.Prelude.{◌≡◌, ◌<◌, length, IfOk};
 ghost use Rattle.gc0_base.specs.declared.place.Place.{Place};
 ghost use Rattle.built_text.specs.declared.tree.Named.{Named};

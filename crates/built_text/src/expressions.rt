@@ -1,3 +1,4 @@
+//! Expressions, calls, formulas and notes.
 #![tactic(auto, using(crate::proofs::Failing::fails_as))]
 
 ghost use Rattle.std.specs.Prelude.{◌≡◌, ◌≤◌, ◌<◌, ◌+◌, ◌-◌, [], ◌∷◌, ◌++◌, ℕ, List, length, IfOk, Option};
@@ -9,23 +10,13 @@ ghost use Rattle.built_text.specs.Plan.{Plan, await, operand, ops, climb, expr, 
 use crate::cursor::{NOWHERE, begins, begins_call, expect, identifier, is};
 use crate::token::{Fixed, Kind, Token};
 use crate::tree::{Call, Expr, Formula, Note, Operator, ReadFault, Right, Spot, UnaryOperator};
-use gc0_base::Place;
+use gc0_base::{Limits, Place};
 use sqlite_items::{Boxed, Items};
 use std::alloc::{AllocError, Global};
 
-// A part's value, or its fault as that of the whole.
-macro_rules! part {
-    ($part:expr) => {
-        match $part {
-            Ok(value) => value,
-            Err(fault) => return Err(fault),
-        }
-    };
-}
-
-// How many operators between two expressions one expression may have, so that no tree is too
-// deep for the stack.
-const MOST_OPERATORS: u32 = 1000;
+// How many operators between two expressions one expression may have: as many as a source text has
+// bytes, so no text within the limits has more.
+const MOST_OPERATORS: u32 = Limits::SOURCE as u32;
 
 // How many ranks the operators between two expressions have.
 const RANKS: u32 = 4;

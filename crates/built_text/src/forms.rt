@@ -1,3 +1,5 @@
+//! Each text that is read is a program of the language, of the forms that are built.
+
 ghost use Rattle.built_text.specs.Forms.{IsBuiltLaw};
 
 use c0_grammar::one_tree;

@@ -1,3 +1,4 @@
+//! Functions, with their heads, contracts and bodies.
 #![tactic(auto, using(crate::proofs::Failing::fails_as))]
 
 ghost use Rattle.std.specs.Prelude.{◌≡◌, ◌≤◌, ◌<◌, ◌++◌, [], ◌∷◌, ℕ, List, map, length, IfOk, Ok};
@@ -14,25 +15,15 @@ use crate::expressions::note;
 use crate::statements::statements;
 use crate::token::{Fixed, Kind, Token};
 use crate::tree::{Clause, ClauseKind, Function, Parameter, Program, ReadFault, Stmt, Typed};
-use gc0_base::Place;
+use gc0_base::{Limits, Place};
 use sqlite_items::Items;
 use std::alloc::{AllocError, Global};
 
-// A part's value, or its fault as that of the whole.
-macro_rules! part {
-    ($part:expr) => {
-        match $part {
-            Ok(value) => value,
-            Err(fault) => return Err(fault),
-        }
-    };
-}
-
 // How deep `!`, `-`, `(` and blocks may nest: in a contract, and in a function's body, which is
 // a block itself.
-const NESTED: u32 = 100;
+const NESTED: u32 = Limits::NESTING;
 
-const BODY_ROOM: u32 = 99;
+const BODY_ROOM: u32 = NESTED - 1;
 
 /// The functions of a program, to the end of the text.
 pub fn program_of(alloc: Global, tokens: &[Token]) -> Result<Program, ReadFault>

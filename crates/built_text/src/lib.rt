@@ -2,14 +2,22 @@
 //! names are not yet resolved.
 #![tactic(auto)]
 
+// A part's value, or its fault as that of the whole.
+macro_rules! part {
+    ($part:expr) => {
+        match $part {
+            Ok(value) => value,
+            Err(fault) => return Err(fault),
+        }
+    };
+}
+
 mod cursor;
 mod expressions;
 mod forms;
 mod functions;
 mod reader;
 mod statements;
-#[cfg(test)]
-mod tests;
 mod token;
 mod tokens;
 mod tree;

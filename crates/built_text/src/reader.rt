@@ -1,9 +1,12 @@
+//! The call that reads a program, and the laws of reading.
+
 ghost use Rattle.std.specs.Prelude.{IfOk, IfErr};
 ghost use Rattle.built_text.specs.Tree.{ProgramTree};
 ghost use Rattle.built_text.specs.Views.{program_view};
 ghost use Rattle.built_text.specs.Tokens.{all_built, EndsLast};
 ghost use Rattle.built_text.specs.Grammar.{IsProgram};
-ghost use Rattle.built_text.specs.Reads.{HasReadCause, GivesOrMemory, OneTree, OneFault, EachTokens};
+ghost use Rattle.built_text.specs.Reads.{HasReadCause, OneTree, OneFault, EachTokens};
+ghost use Rattle.built_text.specs.Answers.{GivesOrMemory};
 
 use crate::functions::program_of;
 use crate::tokens::built_tokens;
@@ -28,11 +31,12 @@ use std::alloc::Global;
 /// formula  = "?" [ "&&" parts ] | parts  parts = expr { "&&" expr }
 /// ```
 ///
-/// `begin` and `end` open and close an annotation. An `expr` has numbers, `true`, `false`, locals, parentheses, `!`, `-`, `*`, `+`, the four
-/// orders, `==` and `!=`, with the precedence of the C0 Reference, and in an `ensures` also
-/// `\result`. The unary `!` and `-`, the `(` of an expression and the blocks together nest at
-/// most 100 deep, and one expression has at most 1,000 operators between two expressions. No
-/// keyword and no library call is an `id`.
+/// `begin` and `end` open and close an annotation. An `expr` has numbers, `true`, `false`, locals,
+/// parentheses, `!`, `-`, `*`, `+`, the four orders, `==` and `!=`, with the precedence of the C0
+/// Reference, and in an `ensures` also `\result`. The unary `!` and `-`, the `(` of an expression
+/// and the blocks together nest at most `Limits::NESTING` deep, and one expression has at most as
+/// many operators between two expressions as a source text may have bytes. No keyword and no
+/// library call is an `id`.
 ///
 /// Tokens that are none of the grammar are `NotBuilt`, at the first that, with those before it,
 /// begins no text of the grammar.

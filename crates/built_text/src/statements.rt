@@ -1,3 +1,4 @@
+//! Statements.
 #![tactic(auto, using(crate::proofs::Failing::fails_as))]
 
 ghost use Rattle.std.specs.Prelude.{◌≡◌, true, cond, ◌≤◌, ◌<◌, ◌+◌, ◌*◌, ◌-◌, ◌∷◌, ◌++◌, ℕ, List, length, IfOk};
@@ -15,16 +16,6 @@ use crate::tree::{Call, Expr, Named, Note, ReadFault, Right, Shape, Stmt, Typed}
 use gc0_base::Place;
 use sqlite_items::Items;
 use std::alloc::Global;
-
-// A part's value, or its fault as that of the whole.
-macro_rules! part {
-    ($part:expr) => {
-        match $part {
-            Ok(value) => value,
-            Err(fault) => return Err(fault),
-        }
-    };
-}
 
 /// Statements in which blocks nest at most `room` deep, and the closing brace behind them with
 /// its place. The brace may come behind any statement, or only behind a `return`.

@@ -1,3 +1,5 @@
+//! Tokens of the grammar of what is built.
+
 use gc0_base::{Place, Word};
 use sqlite_items::Items;
 

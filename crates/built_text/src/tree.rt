@@ -1,3 +1,5 @@
+//! The tree of a program that is built, in which names are not yet resolved.
+
 ghost use Rattle.std.specs.Prelude.{◌≡◌};
 ghost use Rattle.built_text.specs.declared.tree.ReadFault.TheVariants.{Memory};
 ghost use Rattle.built_text.specs.Tree.{spot_of};
@@ -60,8 +62,7 @@ pub struct Spot {
     pub first: Place,
 }
 
-/// An expression. One that was read has at most 1,000 `Binary` nodes, and its path from the
-/// root to a leaf is at most 1,101 nodes long.
+/// An expression. The `!`, `-` and `(` of one that was read nest at most `Limits::NESTING` deep.
 #[derive(Drop)]
 pub enum Expr {
     Number(Spot, Word),
@@ -120,7 +121,8 @@ pub struct Note {
 }
 
 /// A statement. Its place is that of its first token, and in an annotation that of its word.
-/// Lists of statements nest at most 100 deep in a function that was read, its body included.
+/// Lists of statements nest at most `Limits::NESTING` deep in a function that was read, its body
+/// included.
 #[derive(Drop)]
 pub enum Stmt {
     /// `int x = r;`

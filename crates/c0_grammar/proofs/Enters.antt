@@ -9,7 +9,8 @@ use Rattle.c0_grammar.specs.Lists.{spell_all, Each, depth_all}
 use Rattle.c0_grammar.specs.Written.{BaseText, int_word, bool_word, struct_word, alias_word, spell_base, spell_star}
 use Rattle.c0_grammar.specs.Texts.{spell_lines, spell_contract, spell_params, ResultText, void_word, gives, spell_result, ItemText, names_struct, defines_struct, defines_type, declares_function, defines_function, defines_predicates, spell_item, depth_item, library_name, UseText, use_tree}
 use Rattle.c0_grammar.specs.Plan.{use_loop, Plan, library_name_of, finished, expect_sign, use_plan, after_part, Fault, run, program_plan, start}
-use Rattle.c0_grammar.specs.Reads.{Reads, RunIsComplete, OneTree}
+use Rattle.c0_grammar.specs.Reads.{Reads, OneTree}
+use Rattle.c0_grammar.specs.Laws.{RunIsComplete}
 use Rattle.c0_grammar.proofs.Takes.{GoodPart, depth_part}
 use Rattle.c0_grammar.proofs.EntersTokens.{first, pass_on, eat_on, eat_library, EndsList}
 use Rattle.c0_grammar.proofs.EntersNote.{PartEnters, list_enters}

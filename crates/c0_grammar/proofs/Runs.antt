@@ -9,7 +9,8 @@ use Rattle.c0_grammar.specs.Lists.{spell_all}
 use Rattle.c0_grammar.specs.Texts.{spell_item, spell_use}
 use Rattle.c0_grammar.specs.Grammar.{IsProgram}
 use Rattle.c0_grammar.specs.Plan.{Plan, await, peek, name, alias, text, peek_text, library_name_of, operand, arrows, acc_arrows, ops, quest, more_args, simple_end, simple, body, loop_body, lines, many, items, finished, step, Fault, syntax_at, deep_at, nowhere, finish, go, run, start}
-use Rattle.c0_grammar.specs.Reads.{Reads, CanBe, FirstSyntax, FirstDeep, EndsLast, HasFault, Answers, RunIsExact, RunIsComplete}
+use Rattle.c0_grammar.specs.Reads.{Reads, CanBe, FirstSyntax, FirstDeep, EndsLast, HasFault, Answers}
+use Rattle.c0_grammar.specs.Laws.{RunIsExact, RunIsComplete}
 use Rattle.c0_grammar.proofs.Takes.{no_tail, no_link, Passes, Takes, TakesNext}
 use Rattle.c0_grammar.proofs.Marks.{within}
 use Rattle.c0_grammar.proofs.Ends.{behind_end, behind_program, nothing_more}

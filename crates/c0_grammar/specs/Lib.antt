@@ -1,3 +1,4 @@
+-- The definitions of this crate.
 pub mod Tokens
 pub mod Seen
 pub mod Lists
@@ -8,3 +9,6 @@ pub mod Grammar
 pub mod Plan
 pub mod Reads
 pub mod Examples
+pub mod Lexemes
+pub mod Faults
+pub mod Laws

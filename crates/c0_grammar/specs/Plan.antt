@@ -36,6 +36,7 @@ use Rattle.c0_grammar.specs.Written.{named_at, text_at, spot, joined, chosen, po
 use Rattle.c0_grammar.specs.Allowed.{rank, Mode, code, conjunct, value, is_code, is_conjunct, inside, right_of, has, left_fits, condition_fits}
 use Rattle.c0_grammar.specs.Texts.{library_name}
 use Rattle.c0_grammar.specs.Grammar.{is_place}
+pub use Rattle.c0_grammar.specs.Faults.{Fault, syntax_at, deep_at}
 
 -- ---- which fixed token it is
 abbrev pub keyword_code : Keyword → ℕ
@@ -747,10 +748,6 @@ step (items names next) t = items_step names next t.what t.place
 step (finished p d) t = None
 
 -- ---- the run over tokens
-pub data Fault : Type 0 where
-  syntax_at : Place → Fault
-  deep_at : Place → Fault
-
 abbrev pub nowhere : Place
 nowhere = record { line = 0; column = 0 }
 

@@ -4,7 +4,7 @@ use Rattle.gc0_base.specs.declared.place.Place.{Place}
 use Rattle.parsed_tree.specs.Tree.{ProgramTree}
 use Rattle.c0_grammar.specs.Tokens.{Token, end_token}
 use Rattle.c0_grammar.specs.Grammar.{IsProgram, Begins}
-use Rattle.c0_grammar.specs.Plan.{Fault, syntax_at, deep_at, run, start}
+use Rattle.c0_grammar.specs.Faults.{Fault, syntax_at, deep_at}
 
 -- the tokens have this tree, and at most so many nodes stand on a path
 pub record Reads (limit : ℕ) (ts : List Token) (p : ProgramTree) : Type 0 where
@@ -59,14 +59,6 @@ HasFault limit ts (deep_at at) = FirstDeep limit ts at
 abbrev pub Answers : ℕ → List Token → Result ProgramTree Fault → Type 0
 Answers limit ts (Ok p) = Reads limit ts p
 Answers limit ts (Err f) = HasFault limit ts f
-
--- the plans take exactly the programs of the grammar, and stop at the first fault
-abbrev pub RunIsExact : Type 0
-RunIsExact = (limit : ℕ) (ts : List Token) → EndsLast ts → Answers limit ts (run limit start ts)
-
--- each program that is not too deep is read as its tree
-abbrev pub RunIsComplete : Type 0
-RunIsComplete = (limit : ℕ) (ts : List Token) (p : ProgramTree) → Reads limit ts p → run limit start ts ≡ Ok p
 
 -- a text has at most one tree
 abbrev pub OneTree : Type 0

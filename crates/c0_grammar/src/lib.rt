@@ -5,7 +5,8 @@
 //! what that is.
 #![tactic(auto)]
 
-ghost use Rattle.c0_grammar.specs.Reads.{RunIsExact, RunIsComplete, OneTree};
+ghost use Rattle.c0_grammar.specs.Reads.{OneTree};
+ghost use Rattle.c0_grammar.specs.Laws.{RunIsExact, RunIsComplete};
 
 /// The run over tokens gives the tree of a program, or stands at its first fault.
 pub fn run_is_exact()

@@ -1,3 +1,4 @@
+-- The lemmas of this crate.
 pub mod Scanning
 pub mod Spellings
 pub mod Runs

@@ -59,7 +59,9 @@ begins_comment text = begins text (codes "//") || begins text (codes "/*")
 
 -- no longer symbol stands here
 abbrev pub IsLongest : Symbol → List ℕ → Type 0
-IsLongest s rest = (t : Symbol) (more : List ℕ) → symbol_bytes s ++ rest ≡ symbol_bytes t ++ more → length (symbol_bytes t) ≤ length (symbol_bytes s)
+IsLongest s rest =
+    (t : Symbol) (more : List ℕ) → symbol_bytes s ++ rest ≡ symbol_bytes t ++ more
+    → length (symbol_bytes t) ≤ length (symbol_bytes s)
 
 abbrev pub Opens : Mode → List ℕ → Type 0
 Opens Outside bytes = (bytes ≡ codes "//@") ⊎ (bytes ≡ codes "/*@")
@@ -75,10 +77,13 @@ Closes (InBlock opened) bytes rest = bytes ≡ codes "@*/"
 abbrev pub IsToken : Mode → List ℕ → TokenKind → List ℕ → Type 0
 IsToken mode bytes kind.Name rest =
     IsTrue (is_identifier bytes) × IsTrue (ends_word rest) × ((k : Keyword) → IsTrue (is_in_force mode k) → bytes ≢ keyword_bytes k)
-IsToken mode bytes (kind.Keyword k) rest = (bytes ≡ keyword_bytes k) × IsTrue (is_in_force mode k) × IsTrue (ends_word rest)
-IsToken mode bytes (kind.Number w) rest = IsTrue (is_digit_run bytes) × IsTrue (ends_word rest) × (number_of bytes ≡ Some w.0)
+IsToken mode bytes (kind.Keyword k) rest =
+    (bytes ≡ keyword_bytes k) × IsTrue (is_in_force mode k) × IsTrue (ends_word rest)
+IsToken mode bytes (kind.Number w) rest =
+    IsTrue (is_digit_run bytes) × IsTrue (ends_word rest) × (number_of bytes ≡ Some w.0)
 IsToken mode bytes kind.Quoted rest = (cs : List Character) × AreCharacters cs × (bytes ≡ quoted cs)
-IsToken mode bytes (kind.Symbol s) rest = (bytes ≡ symbol_bytes s) × IsLongest s rest × (begins_comment (bytes ++ rest) ≡ false)
+IsToken mode bytes (kind.Symbol s) rest =
+    (bytes ≡ symbol_bytes s) × IsLongest s rest × (begins_comment (bytes ++ rest) ≡ false)
 IsToken mode bytes kind.Use rest = bytes ≡ codes "#use"
 IsToken mode bytes kind.AnnotationBegin rest = Opens mode bytes
 IsToken mode bytes kind.AnnotationEnd rest = Closes mode bytes rest
@@ -100,6 +105,8 @@ piece_bytes (lexeme bytes k) = bytes
 -- this piece stands in this mode and in front of this rest; `//@` and `/*@` begin no comment
 abbrev pub IsPiece : Mode → Piece → List ℕ → Type 0
 IsPiece mode (blank b) rest = IsTrue (is_blank mode b rest)
-IsPiece mode (line_comment body) rest = IsTrue (list_all is_not_newline body) × (begins_with is_at_sign body ≡ false) × IsTrue (ends_line rest)
+IsPiece mode (line_comment body) rest =
+    IsTrue (list_all is_not_newline body) × (begins_with is_at_sign body ≡ false)
+    × IsTrue (ends_line rest)
 IsPiece mode (comment c) rest = IsComment c × (begins_with is_at_sign (comment_bytes c) ≡ false)
 IsPiece mode (lexeme bytes k) rest = IsToken mode bytes k rest

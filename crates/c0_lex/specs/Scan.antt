@@ -30,7 +30,8 @@ word_length (b ∷ bs) = if is_word_byte b then suc (word_length bs) else 0
 
 abbrev pub keyword_among : List Keyword → List ℕ → Option Keyword
 keyword_among [] bytes = None
-keyword_among (k ∷ ks) bytes = if bytes_eq bytes (keyword_bytes k) then Some k else keyword_among ks bytes
+keyword_among (k ∷ ks) bytes =
+    if bytes_eq bytes (keyword_bytes k) then Some k else keyword_among ks bytes
 
 -- the keywords outside annotations, and those that annotations add but `\result`
 abbrev pub code_words : List Keyword
@@ -61,7 +62,8 @@ word_front mode place text =
 -- ---- Symbols
 abbrev pub symbol_among : List Symbol → List ℕ → Option Symbol
 symbol_among [] bytes = None
-symbol_among (s ∷ ss) bytes = if bytes_eq bytes (symbol_bytes s) then Some s else symbol_among ss bytes
+symbol_among (s ∷ ss) bytes =
+    if bytes_eq bytes (symbol_bytes s) then Some s else symbol_among ss bytes
 
 -- the symbols of three bytes, of two, and of one
 abbrev pub triples : List Symbol
@@ -133,7 +135,8 @@ string_found place text Open = Fault (OpenString place)
 
 -- ---- The front of a text
 abbrev pub annotation_front : Mode → Place → Front
-annotation_front mode place = if is_inside mode then Fault (NestedAnnotation place) else Found 3 kind.AnnotationBegin
+annotation_front mode place =
+    if is_inside mode then Fault (NestedAnnotation place) else Found 3 kind.AnnotationBegin
 
 abbrev pub comment_found : Place → Option ℕ → Front
 comment_found place (Some size) = Gap (size + 2)
@@ -149,7 +152,8 @@ comment_front mode place text =
 abbrev pub at_front : Mode → Place → List ℕ → Front
 at_front Outside place text = Fault (BadByte place)
 at_front InLine place text = Gap 1
-at_front (InBlock opened) place text = if begins text (codes "@*/") then Found 3 kind.AnnotationEnd else Gap 1
+at_front (InBlock opened) place text =
+    if begins text (codes "@*/") then Found 3 kind.AnnotationEnd else Gap 1
 
 -- what begins with a byte that is neither white space nor of a word
 abbrev pub mark_front : Mode → Place → List ℕ → Front

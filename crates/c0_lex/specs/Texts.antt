@@ -36,7 +36,8 @@ start = record { mode = Outside; place = place_after [] }
 
 -- `//@` opens an annotation up to the end of its line, `/*@` one that remembers where it began
 abbrev pub mode_behind : Spot → List ℕ → TokenKind → Mode
-mode_behind s bytes kind.AnnotationBegin = if bytes_eq bytes (codes "//@") then InLine else InBlock s.place
+mode_behind s bytes kind.AnnotationBegin =
+    if bytes_eq bytes (codes "//@") then InLine else InBlock s.place
 mode_behind s bytes kind.AnnotationEnd = Outside
 mode_behind s bytes k = s.mode
 
@@ -128,12 +129,21 @@ pub record BeginsOpenComment (text body : List ℕ) : Type 0 where
 -- What stands here is this fault. Each stands at the first byte of what it is about; a bad
 -- escape at its backslash, and an open annotation, at the end of a text, where it was opened.
 abbrev pub IsFault : Spot → List ℕ → LexFault → Type 0
-IsFault s text (BadByte at) = (at ≡ s.place) × ((b : ℕ) × (more : List ℕ) × BeginsNothing s.mode text b more)
-IsFault s text (BadNumber at) = (at ≡ s.place) × ((run : List ℕ) × (rest : List ℕ) × BeginsBadNumber text run rest)
-IsFault s text (BadEscape at) = (cs : List Character) × (rest : List ℕ) × BeginsBadEscape text cs rest × (at ≡ fold moved s.place (34 ∷ spelled_string cs []))
-IsFault s text (OpenString at) = (at ≡ s.place) × ((cs : List Character) × (rest : List ℕ) × BeginsOpenString text cs rest)
-IsFault s text (OpenComment at) = ((at ≡ s.place) × ((body : List ℕ) × BeginsOpenComment text body)) ⊎ ((text ≡ []) × (s.mode ≡ InBlock at))
-IsFault s text (NestedAnnotation at) = (at ≡ s.place) × IsTrue (is_inside s.mode) × IsTrue (begins text (codes "//@") || begins text (codes "/*@"))
+IsFault s text (BadByte at) =
+    (at ≡ s.place) × ((b : ℕ) × (more : List ℕ) × BeginsNothing s.mode text b more)
+IsFault s text (BadNumber at) =
+    (at ≡ s.place) × ((run : List ℕ) × (rest : List ℕ) × BeginsBadNumber text run rest)
+IsFault s text (BadEscape at) =
+    (cs : List Character) × (rest : List ℕ) × BeginsBadEscape text cs rest
+    × (at ≡ fold moved s.place (34 ∷ spelled_string cs []))
+IsFault s text (OpenString at) =
+    (at ≡ s.place) × ((cs : List Character) × (rest : List ℕ) × BeginsOpenString text cs rest)
+IsFault s text (OpenComment at) =
+    ((at ≡ s.place) × ((body : List ℕ) × BeginsOpenComment text body))
+    ⊎ ((text ≡ []) × (s.mode ≡ InBlock at))
+IsFault s text (NestedAnnotation at) =
+    (at ≡ s.place) × IsTrue (is_inside s.mode)
+    × IsTrue (begins text (codes "//@") || begins text (codes "/*@"))
 IsFault s text Memory = ⊥
 
 -- The first fault of a text: pieces, and then what shows the fault.
@@ -173,11 +183,15 @@ OneFault = (text : List ℕ) (a b : LexFault) → HasFault text a → HasFault t
 
 -- no text has both
 abbrev pub NeverBoth : Type 0
-NeverBoth = (text : List ℕ) (tokens : List Lexeme) (fault : LexFault) → HasTokens text tokens → HasFault text fault → ⊥
+NeverBoth =
+    (text : List ℕ) (tokens : List Lexeme) (fault : LexFault) → HasTokens text tokens
+    → HasFault text fault → ⊥
 
 -- each text has the one or the other
 abbrev pub EachText : Type 0
-EachText = (text : List ℕ) → ((tokens : List Lexeme) × HasTokens text tokens) ⊎ ((fault : LexFault) × HasFault text fault)
+EachText =
+    (text : List ℕ)
+    → ((tokens : List Lexeme) × HasTokens text tokens) ⊎ ((fault : LexFault) × HasFault text fault)
 
 -- Which fault a text has is told by its shortest front that begins no text with tokens: all texts
 -- that begin with such a front have the same. Where no front is such a one, its end tells it.
@@ -195,7 +209,9 @@ pub record IsSlice (text before : List ℕ) (t : Lexeme) (gap rest : List ℕ) :
 
 abbrev pub AreSlices : (text before : List ℕ) → List Lexeme → Type 0
 AreSlices text before [] = Unit {0}
-AreSlices text before (t ∷ ts) = (gap : List ℕ) × (rest : List ℕ) × IsSlice text before t gap rest × AreSlices text ((before ++ gap) ++ t.bytes) ts
+AreSlices text before (t ∷ ts) =
+    (gap : List ℕ) × (rest : List ℕ) × IsSlice text before t gap rest
+    × AreSlices text ((before ++ gap) ++ t.bytes) ts
 
 -- the tokens of a text are slices of it, in order
 abbrev pub Slices : Type 0

@@ -1,3 +1,5 @@
+//! Kinds of bytes, and how far a place moves.
+
 ghost use Rattle.std.specs.Prelude.{◌≡◌, ◌≤◌, ◌<◌, ◌+◌, ◌^◌, length, take, fold, IsTrue};
 ghost use Rattle.gc0_base.specs.Places.{moved};
 ghost use Rattle.c0_lex.specs.Bytes.{is_space, is_digit, is_letter, is_word_byte, is_hexadecimal_digit, is_printable, begins, ends_line};

@@ -1,3 +1,5 @@
+//! Comments: how long one is.
+
 ghost use Rattle.std.specs.Prelude.{◌≡◌, ◌≤◌, ◌<◌, ◌+◌, ◌^◌, length, IfSome};
 ghost use Rattle.c0_lex.specs.Bytes.{is_newline};
 ghost use Rattle.c0_lex.specs.Scan.{line_length, comment_length};

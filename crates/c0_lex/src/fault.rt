@@ -1,3 +1,5 @@
+//! Lexical faults.
+
 ghost use Rattle.std.specs.Prelude.{◌≡◌};
 ghost use Rattle.c0_lex.specs.declared.fault.LexFault.TheVariants.{Memory};
 

@@ -1,3 +1,5 @@
+//! What stands first in the rest of a text: a token, a gap or a fault.
+
 ghost use Rattle.std.specs.Prelude.{◌≡◌, ◌≤◌, ◌<◌, ◌+◌, ◌^◌, length, take, drop, fold};
 ghost use Rattle.gc0_base.specs.Places.{moved};
 ghost use Rattle.c0_lex.specs.Bytes.{is_word_byte, is_space, is_digit, begins, begins_with, ends_word};

@@ -1,3 +1,5 @@
+//! Laws of the tokens of texts.
+
 ghost use Rattle.c0_lex.specs.Words.{QuotedMeans};
 ghost use Rattle.c0_lex.specs.Texts.{OneList, OneFault, NeverBoth, EachText, FirstShown, Slices};
 

@@ -1,3 +1,5 @@
+//! The whole text: its tokens, or its first fault.
+
 ghost use Rattle.std.specs.Prelude.{◌≡◌, ◌≤◌, List, length, map, IfOk, IfErr};
 ghost use Rattle.c0_lex.specs.declared.fault.LexFault.{LexFault};
 ghost use Rattle.c0_lex.specs.Texts.{Lexeme, lexeme_of, mode_behind, HasTokens, HasFault, HasCause, GivesOrMemory, FailsOrMemory};

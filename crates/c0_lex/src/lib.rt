@@ -10,8 +10,6 @@ mod laws;
 mod lexer;
 mod strings;
 mod symbols;
-#[cfg(test)]
-mod tests;
 mod token;
 mod words;
 

@@ -1,3 +1,5 @@
+//! String literals: where one ends, and the bytes that it stands for.
+
 ghost use Rattle.std.specs.Prelude.{◌≡◌, ◌≤◌, ◌<◌, ◌+◌, ◌^◌, ◌&&◌, nat_lt, slice_index, length, IsTrue, IfOk, Some, None};
 ghost use Rattle.c0_lex.specs.Bytes.{is_quote, is_backslash, is_printable, begins_with};
 ghost use Rattle.c0_lex.specs.Words.{escape_value, is_escape, escape_byte, unescaped};

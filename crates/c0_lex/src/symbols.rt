@@ -1,3 +1,5 @@
+//! Symbols: the longest that stands first.
+
 ghost use Rattle.std.specs.Prelude.{◌≡◌, take};
 ghost use Rattle.c0_lex.specs.Scan.{symbol_among, triples, pairs, singles, symbol_found, symbol_front};
 

@@ -1,3 +1,5 @@
+//! Tokens, and what they are.
+
 ghost use Rattle.std.specs.Prelude.{◌≡◌, ◌↔◌, IsTrue};
 
 use gc0_base::{Place, Word};

@@ -1,3 +1,5 @@
+//! Words and numbers.
+
 ghost use Rattle.std.specs.Prelude.{◌≡◌, ◌≤◌, ◌<◌, length, drop, IsTrue, Some, None, if◌then◌else◌};
 ghost use Rattle.std.specs.List.{list_all};
 ghost use Rattle.c0_lex.specs.Bytes.{is_digit, is_word_byte, is_hexadecimal_digit, begins, begins_with, ends_word};

@@ -1,3 +1,5 @@
+//! Names, types and expressions.
+
 ghost use Rattle.std.specs.Prelude.{◌≡◌};
 ghost use Rattle.parsed_tree.specs.Tree.{spot_of};
 ghost use Rattle.parsed_tree.specs.Views.{expr_view};

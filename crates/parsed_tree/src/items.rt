@@ -1,3 +1,5 @@
+//! Heads, contracts, items and whole texts.
+
 use crate::expressions::{Expr, Named, TypeName};
 use crate::statements::{Formula, Stmt};
 use gc0_base::Place;

@@ -1,3 +1,5 @@
+//! Formulas, annotations and statements.
+
 use crate::expressions::{Expr, Named, Text, TypeName};
 use gc0_base::Place;
 use sqlite_items::{Boxed, Items};
@@ -119,9 +121,9 @@ pub enum Stmt {
     },
     For {
         place: Place,
-        first: Option<Simple>,
+        first: Option<Boxed<Simple>>,
         test: Expr,
-        last: Option<Simple>,
+        last: Option<Boxed<Simple>>,
         invariants: Items<Invariants>,
         body: Boxed<Stmt>,
     },

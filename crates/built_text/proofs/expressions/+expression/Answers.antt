@@ -1,3 +1,4 @@
+-- What is answered by hand of the proofs of the cycle `expression`.
 use Rattle.std.proofs.Common.{rules, ◌≡◌, ◌-◌, ◌∙◌, ◌∷◌, ℕ, ap, sym, Some}
 use Rattle.built_text.specs.declared.token.Kind.TheVariants.{Known}
 use Rattle.built_text.specs.declared.token.Fixed.TheVariants as mark

@@ -1,3 +1,4 @@
+-- What holds at the loops of the cycle `expression`.
 use Rattle.std.proofs.Common.{◌≡◌, ◌<◌, ◌+◌, ◌-◌, ◌*◌, ℕ, length}
 use Rattle.built_text.specs.Tree.{ExprTree}
 use Rattle.built_text.specs.Views.{expr_view}

@@ -1,3 +1,4 @@
+-- What is answered by hand of the proof of `call`.
 use Rattle.std.proofs.Common.{◌∙◌, ℕ, List}
 use Rattle.built_text.specs.declared.token.Fixed.TheVariants as mark
 use Rattle.built_text.specs.declared.tree.Named.{Named}

@@ -1,3 +1,4 @@
+-- What is answered by hand of the proof of `expression`.
 use Rattle.built_text.proofs.expressions.expression.Goals as goal
 
 pub returns-in-Err-clause-reads : goal.returns-in-Err-clause-reads

@@ -1,3 +1,4 @@
+-- What is answered by hand of the proof of `list_of`.
 use Rattle.std.proofs.Common.{◌∙◌, ◌∷◌, ◌++◌, ap, sym}
 use Rattle.built_text.specs.Tree.{ExprTree}
 use Rattle.built_text.specs.Plan.{Plan, chain, run}

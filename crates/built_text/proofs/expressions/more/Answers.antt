@@ -1,3 +1,4 @@
+-- What is answered by hand of the proof of `more`.
 use Rattle.std.proofs.Common.{rules, ◌≡◌, ◌∙◌, ◌∷◌, [], List, ap, sym, true, false, length}
 use Rattle.built_text.specs.Tree.{ExprTree}
 use Rattle.built_text.specs.Views.{expr_view, exprs_view}

@@ -1,3 +1,4 @@
+-- What holds at the loop of `more`.
 use Rattle.std.proofs.Common.{◌≡◌, ◌≤◌, ◌++◌, List, length}
 use Rattle.built_text.specs.Tree.{ExprTree}
 use Rattle.built_text.specs.Views.{exprs_view}

@@ -1,3 +1,4 @@
+-- What is answered by hand of the proof of `right`.
 use Rattle.std.proofs.Common.{◌∙◌, sym}
 use Rattle.built_text.specs.Tree.{call}
 use Rattle.built_text.proofs.Failing.{fails_as}

@@ -1,3 +1,4 @@
+-- What is answered by hand of the proof of `built_forms`.
 use Rattle.built_text.proofs.Told.{built_forms}
 use Rattle.built_text.proofs.forms.built_forms.Goals as goal
 

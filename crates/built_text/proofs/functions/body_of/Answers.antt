@@ -1,3 +1,4 @@
+-- What is answered by hand of the proof of `body_of`.
 use Rattle.std.proofs.Common.{false}
 use Rattle.built_text.specs.Plan.{lines}
 use Rattle.built_text.proofs.Failing.{along}

@@ -1,3 +1,4 @@
+-- What holds at the loop of `contract_of`.
 use Rattle.std.proofs.Common.{◌≡◌, ◌≤◌, List, length}
 use Rattle.built_text.specs.Tree.{ClauseTree}
 use Rattle.built_text.specs.Views.{clauses_view}

@@ -1,3 +1,4 @@
+-- What is answered by hand of the proof of `function_of`.
 use Rattle.std.proofs.Common.{◌∙◌, List}
 use Rattle.gc0_base.specs.declared.place.Place.{Place}
 use Rattle.built_text.specs.declared.token.Fixed.TheVariants as mark

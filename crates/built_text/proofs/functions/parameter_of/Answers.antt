@@ -1,3 +1,4 @@
+-- What is answered by hand of the proof of `parameter_of`.
 use Rattle.built_text.specs.Plan.{named}
 use Rattle.built_text.proofs.Failing.{fails_as}
 use Rattle.built_text.proofs.functions.parameter_of.Goals as goal

@@ -1,3 +1,4 @@
+-- What holds at the loop of `parameters_behind`.
 use Rattle.std.proofs.Common.{◌≡◌, ◌≤◌, List, length}
 use Rattle.built_text.specs.declared.tree.Parameter.{Parameter}
 use Rattle.built_text.specs.Plan.{Plan, more_parameters, run}

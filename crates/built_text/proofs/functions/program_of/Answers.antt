@@ -1,3 +1,4 @@
+-- What is answered by hand of the proof of `program_of`.
 use Rattle.std.proofs.Common.{rules, ◌≡◌, ◌∙◌, ◌∷◌, List, ap, sym, false, map}
 use Rattle.built_text.specs.declared.tree.Typed.{Typed}
 use Rattle.built_text.specs.Tree.{FunctionTree}

@@ -1,3 +1,4 @@
+-- What holds at the loop of `program_of`.
 use Rattle.std.proofs.Common.{◌≡◌, ◌≤◌, length, map}
 use Rattle.built_text.specs.Views.{function_view}
 use Rattle.built_text.specs.Plan.{functions, program, start, run}

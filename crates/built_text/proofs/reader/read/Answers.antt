@@ -1,3 +1,4 @@
+-- What is answered by hand of the proof of `read`.
 use Rattle.std.proofs.Common.{sym, ◌∙◌, ◌≡◌, Result, Ok, Err, IfOk, IfErr, List}
 use Rattle.gc0_base.specs.declared.place.Place.{Place}
 use Rattle.built_text.specs.declared.token.Token.{Token}
@@ -9,7 +10,8 @@ use Rattle.built_text.specs.Views.{program_view}
 use Rattle.built_text.specs.Grammar.{IsProgram}
 use Rattle.built_text.specs.Plan.{run, start, Answers}
 use Rattle.built_text.specs.Tokens.{all_built, EndsLast}
-use Rattle.built_text.specs.Reads.{HasReadCause, GivesOrMemory}
+use Rattle.built_text.specs.Reads.{HasReadCause}
+use Rattle.built_text.specs.Answers.{GivesOrMemory}
 use Rattle.built_text.proofs.Runs.{reads, faults}
 use Rattle.built_text.proofs.Enters.{complete}
 use Rattle.built_text.proofs.reader.read.Goals as goal

@@ -1,3 +1,4 @@
+-- What is answered by hand of the proofs of the cycle `statement`.
 use Rattle.std.proofs.Common.{rules, ◌≡◌, ◌-◌, ◌∙◌, ◌∷◌, ℕ, List, ap, sym, true, false, cond}
 use Rattle.gc0_base.specs.declared.place.Place.{Place}
 use Rattle.built_text.specs.declared.token.Kind.TheVariants.{Known}

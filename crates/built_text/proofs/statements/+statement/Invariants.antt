@@ -1,3 +1,4 @@
+-- What holds at the loops of the cycle `statement`.
 use Rattle.std.proofs.Common.{◌≡◌, ◌≤◌, ◌+◌, ◌*◌, length}
 use Rattle.gc0_base.specs.declared.place.Place.{Place}
 use Rattle.built_text.specs.Tree.{StmtTrees}

@@ -1,3 +1,4 @@
+-- What is answered by hand of the proof of `assert_behind`.
 use Rattle.std.proofs.Common.{◌∙◌, ap, sym, false}
 use Rattle.built_text.specs.Tree.{NoteTree, StmtTree, assert_stmt}
 use Rattle.built_text.specs.Plan.{Plan, noted, run}

@@ -1,3 +1,4 @@
+-- What is answered by hand of the proof of `by_name`.
 use Rattle.std.proofs.Common.{◌∙◌, ap, sym}
 use Rattle.gc0_base.specs.declared.place.Place.{Place}
 use Rattle.built_text.specs.declared.tree.Named.{Named}

@@ -1,3 +1,4 @@
+-- What is answered by hand of the proof of `invariant_of`.
 use Rattle.std.proofs.Common.{false}
 use Rattle.built_text.specs.Plan.{noted}
 use Rattle.built_text.proofs.Failing.{along}

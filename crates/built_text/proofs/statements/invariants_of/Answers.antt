@@ -1,3 +1,4 @@
+-- What is answered by hand of the proof of `invariants_of`.
 use Rattle.std.proofs.Common.{rules, ◌≡◌, ◌∙◌, ◌∷◌, List, ap, sym, true}
 use Rattle.built_text.specs.declared.token.Fixed.TheVariants as mark
 use Rattle.built_text.specs.Tree.{NoteTree}

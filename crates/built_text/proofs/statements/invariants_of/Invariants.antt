@@ -1,3 +1,4 @@
+-- What holds at the loop of `invariants_of`.
 use Rattle.std.proofs.Common.{◌≡◌, ◌≤◌, List, length}
 use Rattle.built_text.specs.Tree.{NoteTree}
 use Rattle.built_text.specs.Views.{notes_view}

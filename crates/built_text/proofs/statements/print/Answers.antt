@@ -1,3 +1,4 @@
+-- What is answered by hand of the proof of `print`.
 use Rattle.built_text.specs.declared.token.Fixed.TheVariants as mark
 use Rattle.built_text.specs.Tree.{print_stmt}
 use Rattle.built_text.specs.Views.{expr_view}

@@ -1,3 +1,4 @@
+-- What is answered by hand of the proof of `return_behind`.
 use Rattle.std.proofs.Common.{◌∙◌, ap, sym}
 use Rattle.built_text.specs.declared.token.Fixed.TheVariants as mark
 use Rattle.built_text.specs.Tree.{return_stmt}

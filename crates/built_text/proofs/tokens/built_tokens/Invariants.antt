@@ -1,3 +1,4 @@
+-- What holds at the loop of `built_tokens`.
 use Rattle.std.proofs.Common.{◌≡◌, take}
 use Rattle.built_text.specs.Tokens.{all_built}
 use Rattle.built_text.proofs.tokens.built_tokens.Given as goal

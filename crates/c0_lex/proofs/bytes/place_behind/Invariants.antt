@@ -1,3 +1,4 @@
+-- What holds at the loop of `place_behind`.
 use Rattle.std.proofs.Common.{◌≡◌, ◌≤◌, ◌+◌, take}
 use Rattle.std.specs.Prelude.{fold}
 use Rattle.gc0_base.specs.Places.{moved}

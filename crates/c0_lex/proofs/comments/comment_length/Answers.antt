@@ -1,3 +1,4 @@
+-- What is answered by hand of the proof of `comment_length`.
 use Rattle.std.proofs.Common.{◌-◌, [], ◌∷◌, length, take, drop, sym, arith}
 use Rattle.c0_lex.proofs.Scanning.{longer_none, comment_opens, comment_closes, comment_goes_on, told, rest_is, two_within}
 use Rattle.c0_lex.proofs.comments.comment_length.Goals as goal

@@ -1,3 +1,4 @@
+-- What holds at the loop of `comment_length`.
 use Rattle.std.proofs.Common.{◌≡◌, ◌≤◌, ◌-◌, length, drop}
 use Rattle.c0_lex.specs.Scan.{comment_length, longer}
 use Rattle.c0_lex.proofs.comments.comment_length.Given as goal

@@ -1,3 +1,4 @@
+-- What holds at the loop of `line_length`.
 use Rattle.std.proofs.Common.{◌≡◌, ◌+◌, drop}
 use Rattle.c0_lex.specs.Scan.{line_length}
 use Rattle.c0_lex.proofs.comments.line_length.Given as goal

@@ -1,3 +1,4 @@
+-- What is answered by hand of the proof of `front_of`.
 use Rattle.std.proofs.Common.{rules}
 use Rattle.c0_lex.proofs.Steps.{within_of}
 use Rattle.c0_lex.proofs.front.front_of.Goals as goal

@@ -1,3 +1,4 @@
+-- What is answered by hand of the proof of `tokens`.
 use Rattle.std.proofs.Common.{map, ap, ◌∙◌, inl}
 use Rattle.std.proofs.lemmas.List.{map-append}
 use Rattle.c0_lex.specs.Texts.{lexeme_of}

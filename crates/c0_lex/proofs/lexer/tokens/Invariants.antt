@@ -1,3 +1,4 @@
+-- What holds at the loop of `tokens`.
 use Rattle.std.proofs.Common.{◌≤◌, ◌+◌, ◌-◌, ◌*◌, length, map}
 use Rattle.c0_lex.specs.Texts.{lexeme_of}
 use Rattle.c0_lex.proofs.Cuts.{line_weight}

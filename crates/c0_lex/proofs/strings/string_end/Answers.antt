@@ -1,3 +1,4 @@
+-- What is answered by hand of the proof of `string_end`.
 use Rattle.std.proofs.Common.{◌+◌, sym, ◌∙◌, arith}
 use Rattle.c0_lex.proofs.Scanning.{further_none, string_closed, string_bad, string_escape, string_plain, string_wild, rest_is}
 use Rattle.c0_lex.proofs.strings.string_end.Goals as goal

@@ -1,3 +1,4 @@
+-- What holds at the loop of `string_end`.
 use Rattle.std.proofs.Common.{◌≡◌, ◌≤◌, ◌-◌, length, drop}
 use Rattle.c0_lex.specs.Scan.{string_end, further}
 use Rattle.c0_lex.proofs.strings.string_end.Given as goal

@@ -1,3 +1,4 @@
+-- What is answered by hand of the proof of `unescape`.
 use Rattle.std.proofs.Common.{◌-◌, ◌<◌, length, take, drop, sym, ap, ◌∙◌, arith, length-drop}
 use Rattle.c0_lex.proofs.Scanning.{rest_is}
 use Rattle.c0_lex.proofs.Quotes.{contents_escape, contents_plain}

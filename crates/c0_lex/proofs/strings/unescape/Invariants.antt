@@ -1,3 +1,4 @@
+-- What holds at the loop of `unescape`.
 use Rattle.std.proofs.Common.{◌≡◌, ◌++◌, ◌-◌, length, drop}
 use Rattle.c0_lex.specs.Words.{contents}
 use Rattle.c0_lex.proofs.strings.unescape.Given as goal

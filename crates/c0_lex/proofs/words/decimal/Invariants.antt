@@ -1,3 +1,4 @@
+-- What holds at the loop of `decimal`.
 use Rattle.std.proofs.Common.{◌≡◌, ◌^◌, ◌-◌, min, take, true}
 use Rattle.std.specs.List.{list_all}
 use Rattle.c0_lex.specs.Bytes.{is_digit}

@@ -1,3 +1,4 @@
+-- What is answered by hand of the proof of `hexadecimal_digits`.
 use Rattle.std.proofs.Common.{◌≤◌, ◌<◌, ◌^◌, ℕ, sym, ◌∙◌, arith}
 use Rattle.std.proofs.Math.Nat.{pow-le-pow_right}
 use Rattle.c0_lex.proofs.words.hexadecimal_digits.Goals as goal

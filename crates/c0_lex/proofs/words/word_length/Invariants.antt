@@ -1,3 +1,4 @@
+-- What holds at the loop of `word_length`.
 use Rattle.std.proofs.Common.{◌≡◌, ◌+◌, drop}
 use Rattle.c0_lex.specs.Scan.{word_length}
 use Rattle.c0_lex.proofs.words.word_length.Given as goal
