@@ -2,7 +2,7 @@
 use Rattle.std.proofs.Common.{◌≡◌, List, [], ◌∷◌, ◌++◌, Option, Some, None, fold, refl}
 use Rattle.c0_parse.specs.declared.fault.ParseFault.{ParseFault}
 use Rattle.c0_parse.specs.TreeFaults.{TreeFault}
-use Rattle.c0_parse.specs.Causes.{first_of, fault_of, earlier}
+use Rattle.c0_parse.specs.Answers.{first_of, fault_of, earlier}
 
 pub both_parts : (found : Option ParseFault) (a b : List TreeFault) → fold earlier found (a ++ b) ≡ fold earlier (fold earlier found a) b
 both_parts found [] b = refl

@@ -9,10 +9,10 @@ use Rattle.parsed_tree.specs.declared.items.Param.{Param}
 use Rattle.parsed_tree.specs.Tree.{ItemTree}
 use Rattle.c0_grammar.specs.Tokens.{sign_mark, end_mark, What, fixed, name_what, number_what, text_what, token}
 use Rattle.c0_grammar.specs.Plan.{is, Plan, await, items, typed, type_step, typed_head, after_item, items_step, step}
-use Rattle.c0_parse.specs.Seen.{starts, reading, stepping}
+use Rattle.c0_cursor.specs.Seen.{starts, reading, stepping}
 use Rattle.c0_grammar.specs.Seen.{what_of}
 use Rattle.c0_parse.specs.Read.{params_then, fields_then}
-use Rattle.c0_parse.proofs.Many.{typed_step}
+use Rattle.c0_parse.proofs.Parts.{typed_step}
 
 pub params_more : (ps : List Param) (next : List Param → Plan) (x : Param) → ◌≡◌ {A = List Param → ℕ → Plan} (λ others d. params_then ps next (x ∷ others) (max 0 d)) (params_then (ps ++ x ∷ []) next)
 params_more ps next x = λ i others d. await 0 (sign_mark mark.CloseParen) (λ b. next (sym (append_assoc ps (x ∷ []) others) i))

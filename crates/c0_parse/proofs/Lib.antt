@@ -1,12 +1,7 @@
-pub mod Failing
-pub mod NameSets
-pub mod Steps
-pub mod Stars
-pub mod Many
-pub mod ItemSteps
-pub mod Lines
-pub mod Notes
-pub mod Simples
-pub mod Firsts
-pub mod Uses
-pub mod Answering
+-- The lemmas.
+mod Parts
+mod ItemSteps
+mod Lines
+mod Firsts
+mod Uses
+mod Answering

@@ -10,10 +10,11 @@ use Rattle.parsed_tree.specs.Tree.{ProgramTree, InvariantsTree, StmtTree, StmtTr
 use Rattle.parsed_tree.specs.Views.{stmt_view, stmts_view}
 use Rattle.c0_grammar.specs.Tokens.{word_mark, sign_mark, open_mark, close_mark, What, fixed, name_what, number_what, text_what}
 use Rattle.c0_grammar.specs.Plan.{is, invariant_loop, Plan, await, peek, many, simple, body, loop_body, lines, or_step, notes_plan, simple_line, compound_step, line_step, simple_step, lines_step, after_line, invariant_plan, after_invariants, head_annotation, loop_body_step, Fault}
-use Rattle.c0_parse.specs.Seen.{starts, line_reading, opens_invariants, invariants_plan, reading, stepping}
+use Rattle.c0_cursor.specs.Seen.{starts, reading, stepping}
+use Rattle.c0_parse.specs.Seen.{line_reading, opens_invariants, invariants_plan}
 use Rattle.c0_grammar.specs.Seen.{what_of}
 use Rattle.c0_parse.specs.Read.{onto_loop}
-use Rattle.c0_parse.proofs.Steps.{peek_await, not_first}
+use Rattle.c0_cursor.specs.Laws.{peek_await, not_first}
 
 -- ---- a statement by its first token
 pub line_at : (names : List (List ℕ)) (whole : Bool) (up : ℕ) (next : StmtTree → ℕ → Plan) (t : Token) (ts : List Token) (k : TokenKind) → t.kind ≡ k → line_reading names whole up next (t ∷ ts) ≡ stepping (line_step names whole up next (what_of k t.text.now) t.place) t.place ts

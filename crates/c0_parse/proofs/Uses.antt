@@ -5,7 +5,7 @@ use Rattle.c0_lex.specs.declared.token.Token.{Token}
 use Rattle.parsed_tree.specs.declared.items.Library.{Library}
 use Rattle.c0_grammar.specs.Tokens.{use_mark, What, fixed, name_what, number_what, text_what}
 use Rattle.c0_grammar.specs.Plan.{is, use_loop, use_plan, Plan, await, many, or_step, enter, after_part, node, step}
-use Rattle.c0_parse.specs.Seen.{starts, reading, stepping}
+use Rattle.c0_cursor.specs.Seen.{starts, reading, stepping}
 use Rattle.c0_grammar.specs.Seen.{what_of, seen}
 
 -- the libraries so far, in front of others

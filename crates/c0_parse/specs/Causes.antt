@@ -1,62 +1,24 @@
--- When the parser gives each of its answers.
-use Rattle.std.specs.Prelude.{◌≡◌, List, [], ◌∷◌, Option, Some, None, Result, Ok, Err}
-use Rattle.std.specs.Option.{option_or}
-use Rattle.parsed_tree.specs.declared.items.Parsed.{Parsed}
+-- When tokens have each of the parser's faults.
+use Rattle.std.specs.Prelude.{◌≡◌, List, ◌∷◌}
 use Rattle.parsed_tree.specs.Tree.{ProgramTree}
-use Rattle.parsed_tree.specs.Views.{program_view}
 use Rattle.c0_grammar.specs.Tokens.{Token}
-use Rattle.c0_grammar.specs.Plan.{syntax_at, deep_at}
+use Rattle.c0_grammar.specs.Faults.{syntax_at, deep_at}
 use Rattle.c0_grammar.specs.Reads.{Reads, HasFault}
 use Rattle.c0_parse.specs.declared.fault.ParseFault.{ParseFault}
 use Rattle.c0_parse.specs.declared.fault.ParseFault.TheVariants as fault
-use Rattle.c0_parse.specs.declared.fault.Stop.{Stop}
-use Rattle.c0_parse.specs.declared.fault.Stop.TheVariants as stop
 use Rattle.c0_parse.specs.TreeFaults.{TreeFault, contract_on_prototype, deep_read, tree_faults}
+use Rattle.gc0_base.specs.declared.limits.TheConstants.Limits as limits
 
 -- this fault of the tree comes first
 abbrev pub ComesFirst : TreeFault → List TreeFault → Type 0
 ComesFirst f fs = (rest : List TreeFault) × (fs ≡ f ∷ rest)
 
 abbrev pub TreeHas : List Token → TreeFault → Type 0
-TreeHas ts f = (p : ProgramTree) × Reads 100 ts p × ComesFirst f (tree_faults p)
+TreeHas ts f = (p : ProgramTree) × Reads limits.NESTING ts p × ComesFirst f (tree_faults p)
 
 abbrev pub HasCause : List Token → ParseFault → Type 0
-HasCause ts (fault.Syntax at) = HasFault 100 ts (syntax_at at)
-HasCause ts (fault.TooDeep at) = HasFault 100 ts (deep_at at)
+HasCause ts (fault.Syntax at) = HasFault limits.NESTING ts (syntax_at at)
+HasCause ts (fault.TooDeep at) = HasFault limits.NESTING ts (deep_at at)
 HasCause ts (fault.ContractOnPrototype at) = TreeHas ts (contract_on_prototype at)
 HasCause ts (fault.DeepRead at) = TreeHas ts (deep_read at)
 HasCause ts fault.Memory = Unit {0}
-
--- a program that is not too deep is answered with its tree, or with the first fault of the tree
-abbrev pub AnswersTree : ProgramTree → Result Parsed ParseFault → Type 0
-AnswersTree p (Ok q) = (program_view q ≡ p) × (tree_faults p ≡ [])
-AnswersTree p (Err (fault.ContractOnPrototype at)) = ComesFirst (contract_on_prototype at) (tree_faults p)
-AnswersTree p (Err (fault.DeepRead at)) = ComesFirst (deep_read at) (tree_faults p)
-AnswersTree p (Err fault.Memory) = Unit {0}
-AnswersTree p (Err f) = ⊥
-
--- a fault of a tree, as the parser answers it
-abbrev pub fault_of : TreeFault → ParseFault
-fault_of (contract_on_prototype at) = fault.ContractOnPrototype at
-fault_of (deep_read at) = fault.DeepRead at
-
--- the first fault of a tree
-abbrev pub first_of : List TreeFault → Option ParseFault
-first_of [] = None
-first_of (f ∷ fs) = Some (fault_of f)
-
--- the one that was found, or else this one
-abbrev pub earlier : Option ParseFault → TreeFault → Option ParseFault
-earlier found f = option_or found (Some (fault_of f))
-
--- a tree without a fault, or its fault
-abbrev pub unless_fault : Parsed → Option ParseFault → Result Parsed ParseFault
-unless_fault q None = Ok q
-unless_fault q (Some e) = Err e
-
--- what the parser answers, from what the reading answered
-abbrev pub answer_of : Result Parsed Stop → Result Parsed ParseFault
-answer_of (Ok q) = unless_fault q (first_of (tree_faults (program_view q)))
-answer_of (Err (stop.Syntax at)) = Err (fault.Syntax at)
-answer_of (Err (stop.TooDeep at)) = Err (fault.TooDeep at)
-answer_of (Err stop.Memory) = Err fault.Memory

@@ -1,9 +1,10 @@
+//! Why tokens were not read.
+
 ghost use Rattle.std.specs.Prelude.{◌≡◌};
 ghost use Rattle.c0_parse.specs.declared.fault.ParseFault.TheVariants as fault;
-ghost use Rattle.c0_parse.specs.declared.fault.Stop.TheVariants as stop;
 
 use gc0_base::Place;
-use std::alloc::{AllocError, AllocFailed};
+use std::alloc::AllocError;
 use thiserror::Error;
 
 /// Why tokens were not read: their first fault and where it stands, or want of memory.
@@ -34,29 +35,5 @@ impl From<AllocError> for ParseFault {
 
     fn from(_: AllocError) -> Self {
         ParseFault::Memory
-    }
-}
-
-/// Why a part of the tokens was not read.
-#[derive(Clone, Copy, Debug, PartialEq, Eq)]
-pub enum Stop {
-    Syntax(Place),
-    TooDeep(Place),
-    Memory,
-}
-
-impl From<AllocError> for Stop {
-    ghost from_gives = { λ _ e. e ≡ stop.Memory };
-
-    fn from(_: AllocError) -> Self {
-        Stop::Memory
-    }
-}
-
-impl<T: Drop> From<AllocFailed<T>> for Stop {
-    ghost from_gives = { λ _ e. e ≡ stop.Memory };
-
-    fn from(_: AllocFailed<T>) -> Self {
-        Stop::Memory
     }
 }

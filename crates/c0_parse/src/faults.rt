@@ -5,7 +5,7 @@
 ghost use Rattle.std.specs.Prelude.{◌≡◌, map, fold};
 ghost use Rattle.parsed_tree.specs.Views.{expr_view, exprs_view, formula_view, note_view, invariant_view, invariants_view, stmt_view, stmts_view, clause_view, contract_view, predicate_view, item_view, program_view};
 ghost use Rattle.c0_parse.specs.TreeFaults.{reads_in, all_reads_in, deep_in, deep_args, deep_conditions, deep_parts, formula_faults, note_faults, invariant_faults, invariants_faults, stmt_faults, stmts_faults, clause_faults, contract_faults, prototype_clause, prototype_contract, predicate_faults, item_faults, tree_faults, all_of};
-ghost use Rattle.c0_parse.specs.Causes.{first_of, earlier};
+ghost use Rattle.c0_parse.specs.Answers.{first_of, earlier};
 
 use crate::fault::ParseFault;
 use parsed_tree::{

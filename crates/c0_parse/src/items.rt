@@ -1,5 +1,5 @@
 //! Heads of functions with their contracts, and the items of a program.
-#![tactic(auto, using(crate::proofs::Failing::fails_as))]
+#![tactic(auto, using(c0_cursor::specs::Laws::fails_as))]
 
 ghost use Rattle.std.specs.Prelude.{◌≡◌, ◌≤◌, ◌<◌, ◌||◌, ℕ, false, List, [], ◌∷◌, map, length, IfOk};
 ghost use Rattle.c0_lex.specs.declared.token.Keyword.TheVariants.{Requires, Ensures};
@@ -10,38 +10,24 @@ ghost use Rattle.parsed_tree.specs.Tree.{ClauseTree, ContractTree, PredicateTree
 ghost use Rattle.parsed_tree.specs.Views.{clause_view, contract_view, predicate_view, item_view};
 ghost use Rattle.c0_grammar.specs.Tokens.{word_mark, end_mark};
 ghost use Rattle.c0_grammar.specs.Plan.{Plan, name, many, param_loop, contract_loop, clause_loop, predicate_loop, field_loop, items, param_plan, params_plan, clause_plan, contract_plan, predicate_plan, typed, typed_head, head_plan, struct_plan, predicates_plan, typedef_plan, after_item};
-ghost use Rattle.c0_parse.specs.Seen.{reading, starts, one_clause, Parsed};
+ghost use Rattle.c0_cursor.specs.Seen.{reading, starts, Parsed};
+ghost use Rattle.c0_parse.specs.Seen.{one_clause};
 ghost use Rattle.c0_parse.specs.Read.{params_then, fields_then};
 
-use crate::built::deeper;
-use crate::cursor::{
-    NOWHERE, any_name, begins, begins_close, begins_end, begins_open, begins_word, expect,
-    expect_close, expect_end, expect_open, expect_word, free_name, remaining,
-};
-use crate::expressions::expression;
-use crate::fault::Stop;
-use crate::formulas::stated;
-use crate::names::Names;
-use crate::operators::Mode;
+use crate::part;
 use crate::statements::lines_of;
-use crate::types::{behind_base, type_name};
+use c0_cursor::{
+    Mark, Mode, NOWHERE, Names, Stop, any_name, begins, behind_base, expect, free_name, remaining,
+    type_name,
+};
+use c0_expressions::{deeper, expression, stated};
 use c0_lex::{Keyword, Symbol, Token, TokenKind};
-use gc0_base::Place;
+use gc0_base::{Limits, Place};
 use parsed_tree::{
     Base, Clause, Contract, Field, Head, Item, Named, Param, PredicateText, ResultType, Side,
 };
 use sqlite_items::Items;
 use std::alloc::{AllocError, Global};
-
-// A part's value, or its fault as that of the whole.
-macro_rules! part {
-    ($part:expr) => {
-        match $part {
-            Ok(value) => value,
-            Err(fault) => return Err(fault),
-        }
-    };
-}
 
 // A parameter.
 fn param_of<'t, 'a>(
@@ -66,8 +52,8 @@ fn params_of<'t, 'a>(
     ensures reads { (next : List Param → Plan) → Parsed (λ x. reading (next x.0) x.1.now) (reading (params_plan names.now next) tokens.now) result }
     ensures shorter { IfOk result (λ x. length x.1.now < length tokens.now) }
 {
-    if begins(Symbol::CloseParen, tokens) {
-        let (_, rest) = part!(expect(Symbol::CloseParen, tokens));
+    if begins(Mark::Sign(Symbol::CloseParen), tokens) {
+        let (_, rest) = part!(expect(Mark::Sign(Symbol::CloseParen), tokens));
         return Ok((Items::new(alloc), rest));
     }
     let (first, rest) = part!(param_of(alloc, names, tokens));
@@ -95,13 +81,13 @@ fn params_behind<'t, 'a>(
 {
     let mut found = so_far;
     let mut rest = tokens;
-    'params: while begins(Symbol::Comma, rest) {
-        let (_, behind) = part!(expect(Symbol::Comma, rest));
+    'params: while begins(Mark::Sign(Symbol::Comma), rest) {
+        let (_, behind) = part!(expect(Mark::Sign(Symbol::Comma), rest));
         let (param, after) = part!(param_of(alloc, names, behind));
         found.push(param)?;
         rest = remaining(after);
     }
-    let (_, rest) = part!(expect(Symbol::CloseParen, rest));
+    let (_, rest) = part!(expect(Mark::Sign(Symbol::CloseParen), rest));
     Ok((found, rest))
 }
 
@@ -109,7 +95,7 @@ fn params_behind<'t, 'a>(
 fn begins_clause<'t, 'a>(tokens: &'t [Token<'a>]) -> bool
     ensures { result ≡ (starts (word_mark Requires) tokens.now || starts (word_mark Ensures) tokens.now) }
 {
-    begins_word(Keyword::Requires, tokens) || begins_word(Keyword::Ensures, tokens)
+    begins(Mark::Word(Keyword::Requires), tokens) || begins(Mark::Word(Keyword::Ensures), tokens)
 }
 
 // A clause of a contract, from its word on.
@@ -119,14 +105,14 @@ fn clause_of<'t, 'a>(
     tokens: &'t [Token<'a>],
 ) -> Result<(Clause, u32, &'t [Token<'a>]), Stop>
     ensures reads { (next : ClauseTree → ℕ → Plan) → Parsed (λ x. reading (next (clause_view x.0) x.1) x.2.now) (reading (one_clause names.now next) tokens.now) result }
-    ensures room { IfOk result (λ x. x.1 ≤ 100) }
+    ensures room { IfOk result (λ x. x.1 ≤ Limits.NESTING) }
     ensures shorter { IfOk result (λ x. length x.2.now < length tokens.now) }
 {
-    if begins_word(Keyword::Requires, tokens) {
-        let (place, rest) = part!(expect_word(Keyword::Requires, tokens));
+    if begins(Mark::Word(Keyword::Requires), tokens) {
+        let (place, rest) = part!(expect(Mark::Word(Keyword::Requires), tokens));
         return stated_clause(alloc, names, Side::Requires, place, rest);
     }
-    let (place, rest) = part!(expect_word(Keyword::Ensures, tokens));
+    let (place, rest) = part!(expect(Mark::Word(Keyword::Ensures), tokens));
     stated_clause(alloc, names, Side::Ensures, place, rest)
 }
 
@@ -139,7 +125,7 @@ fn stated_clause<'t, 'a>(
     tokens: &'t [Token<'a>],
 ) -> Result<(Clause, u32, &'t [Token<'a>]), Stop>
     ensures reads { (next : ClauseTree → ℕ → Plan) → Parsed (λ x. reading (next (clause_view x.0) x.1) x.2.now) (reading (clause_plan names.now next side place) tokens.now) result }
-    ensures room { IfOk result (λ x. x.1 ≤ 100) }
+    ensures room { IfOk result (λ x. x.1 ≤ Limits.NESTING) }
     ensures shorter { IfOk result (λ x. length x.2.now < length tokens.now) }
 {
     let (formula, depth, rest) = part!(stated(alloc, names, 0, tokens));
@@ -162,7 +148,7 @@ fn contract_behind<'t, 'a>(
     tokens: &'t [Token<'a>],
 ) -> Result<(Contract, u32, &'t [Token<'a>]), Stop>
     ensures reads { (next : ContractTree → ℕ → Plan) → Parsed (λ x. reading (next (contract_view x.0) x.1) x.2.now) (reading (contract_plan names.now next place) tokens.now) result }
-    ensures room { IfOk result (λ x. x.1 ≤ 100) }
+    ensures room { IfOk result (λ x. x.1 ≤ Limits.NESTING) }
     ensures shorter { IfOk result (λ x. length x.2.now < length tokens.now) }
 {
     let mut clauses = Items::new(alloc);
@@ -174,7 +160,7 @@ fn contract_behind<'t, 'a>(
         clauses.push(clause)?;
         rest = remaining(after);
     }
-    let (_, rest) = part!(expect_close(rest));
+    let (_, rest) = part!(expect(Mark::Close, rest));
     Ok((Contract { place, clauses }, deepest, rest))
 }
 
@@ -185,14 +171,14 @@ fn contracts_of<'t, 'a>(
     tokens: &'t [Token<'a>],
 ) -> Result<(Items<Contract>, u32, &'t [Token<'a>]), Stop>
     ensures reads { (next : List ContractTree → ℕ → Plan) → Parsed (λ x. reading (next (map contract_view x.0) x.1) x.2.now) (reading (many (contract_loop names.now) next) tokens.now) result }
-    ensures room { IfOk result (λ x. x.1 ≤ 100) }
+    ensures room { IfOk result (λ x. x.1 ≤ Limits.NESTING) }
     ensures shorter { IfOk result (λ x. length x.2.now ≤ length tokens.now) }
 {
     let mut found = Items::new(alloc);
     let mut deepest = 0;
     let mut rest = tokens;
-    'contracts: while begins_open(rest) {
-        let (place, behind) = part!(expect_open(rest));
+    'contracts: while begins(Mark::Open, rest) {
+        let (place, behind) = part!(expect(Mark::Open, rest));
         let (contract, depth, after) = part!(contract_behind(alloc, names, place, behind));
         deepest = deeper(deepest, depth);
         found.push(contract)?;
@@ -209,11 +195,11 @@ fn head_behind<'t, 'a>(
     tokens: &'t [Token<'a>],
 ) -> Result<(Item, u32, &'t [Token<'a>]), Stop>
     ensures reads { (next : ItemTree → ℕ → Plan) → Parsed (λ x. reading (next (item_view x.0) x.1) x.2.now) (reading (head_plan names.now next returned) tokens.now) result }
-    ensures room { IfOk result (λ x. x.1 ≤ 100) }
+    ensures room { IfOk result (λ x. x.1 ≤ Limits.NESTING) }
     ensures shorter { IfOk result (λ x. length x.2.now < length tokens.now) }
 {
     let (name, rest) = part!(free_name(alloc, names, tokens));
-    let (_, rest) = part!(expect(Symbol::OpenParen, rest));
+    let (_, rest) = part!(expect(Mark::Sign(Symbol::OpenParen), rest));
     let (params, rest) = part!(params_of(alloc, names, rest));
     let head = Head {
         result: returned,
@@ -221,11 +207,11 @@ fn head_behind<'t, 'a>(
         params,
     };
     let (contract, above, rest) = part!(contracts_of(alloc, names, rest));
-    if !begins(Symbol::OpenBrace, rest) {
-        let (_, rest) = part!(expect(Symbol::Semicolon, rest));
+    if !begins(Mark::Sign(Symbol::OpenBrace), rest) {
+        let (_, rest) = part!(expect(Mark::Sign(Symbol::Semicolon), rest));
         return Ok((Item::Prototype { head, contract }, above, rest));
     }
-    let (_, rest) = part!(expect(Symbol::OpenBrace, rest));
+    let (_, rest) = part!(expect(Mark::Sign(Symbol::OpenBrace), rest));
     let (body, depth, close, rest) = part!(lines_of(alloc, names, 1, rest));
     Ok((
         Item::Function {
@@ -247,16 +233,16 @@ fn struct_behind<'t, 'a>(
     tokens: &'t [Token<'a>],
 ) -> Result<(Item, u32, &'t [Token<'a>]), Stop>
     ensures reads { (next : ItemTree → ℕ → Plan) → Parsed (λ x. reading (next (item_view x.0) x.1) x.2.now) (reading (struct_plan names.now next place) tokens.now) result }
-    ensures room { IfOk result (λ x. x.1 ≤ 100) }
+    ensures room { IfOk result (λ x. x.1 ≤ Limits.NESTING) }
     ensures shorter { IfOk result (λ x. length x.2.now < length tokens.now) }
 {
     let (name, rest) = part!(any_name(alloc, tokens));
-    if begins(Symbol::Semicolon, rest) {
-        let (_, rest) = part!(expect(Symbol::Semicolon, rest));
+    if begins(Mark::Sign(Symbol::Semicolon), rest) {
+        let (_, rest) = part!(expect(Mark::Sign(Symbol::Semicolon), rest));
         return Ok((Item::StructName { place, name }, 0, rest));
     }
-    if begins(Symbol::OpenBrace, rest) {
-        let (_, rest) = part!(expect(Symbol::OpenBrace, rest));
+    if begins(Mark::Sign(Symbol::OpenBrace), rest) {
+        let (_, rest) = part!(expect(Mark::Sign(Symbol::OpenBrace), rest));
         let (fields, rest) = part!(fields_of(alloc, names, rest));
         return Ok((
             Item::Struct {
@@ -283,15 +269,15 @@ fn fields_of<'t, 'a>(
 {
     let mut found = Items::new(alloc);
     let mut rest = tokens;
-    'fields: while !begins(Symbol::CloseBrace, rest) {
+    'fields: while !begins(Mark::Sign(Symbol::CloseBrace), rest) {
         let (typed, behind) = part!(type_name(alloc, names, rest));
         let (name, behind) = part!(any_name(alloc, behind));
-        let (_, after) = part!(expect(Symbol::Semicolon, behind));
+        let (_, after) = part!(expect(Mark::Sign(Symbol::Semicolon), behind));
         found.push(Field { typed, name })?;
         rest = remaining(after);
     }
-    let (_, rest) = part!(expect(Symbol::CloseBrace, rest));
-    let (_, rest) = part!(expect(Symbol::Semicolon, rest));
+    let (_, rest) = part!(expect(Mark::Sign(Symbol::CloseBrace), rest));
+    let (_, rest) = part!(expect(Mark::Sign(Symbol::Semicolon), rest));
     Ok((found, rest))
 }
 
@@ -303,22 +289,22 @@ fn predicate_behind<'t, 'a>(
     tokens: &'t [Token<'a>],
 ) -> Result<(PredicateText, u32, &'t [Token<'a>]), Stop>
     ensures reads { (next : PredicateTree → ℕ → Plan) → Parsed (λ x. reading (next (predicate_view x.0) x.1) x.2.now) (reading (predicate_plan names.now next place) tokens.now) result }
-    ensures room { IfOk result (λ x. x.1 ≤ 100) }
+    ensures room { IfOk result (λ x. x.1 ≤ Limits.NESTING) }
     ensures shorter { IfOk result (λ x. length x.2.now < length tokens.now) }
 {
     let (name, rest) = part!(free_name(alloc, names, tokens));
-    let (_, rest) = part!(expect(Symbol::OpenParen, rest));
+    let (_, rest) = part!(expect(Mark::Sign(Symbol::OpenParen), rest));
     let (params, rest) = part!(params_of(alloc, names, rest));
-    let (_, rest) = part!(expect(Symbol::Assign, rest));
+    let (_, rest) = part!(expect(Mark::Sign(Symbol::Assign), rest));
     let (e, rest) = part!(expression(alloc, names, Mode::Conjunct, 0, rest));
-    let (_, rest) = part!(expect(Symbol::Semicolon, rest));
+    let (_, rest) = part!(expect(Mark::Sign(Symbol::Semicolon), rest));
     let depth = e.depth;
     Ok((
         PredicateText {
             place,
             name,
             params,
-            body: e.expr,
+            body: e.expr.into_inner(),
         },
         depth,
         rest,
@@ -333,20 +319,20 @@ fn predicates_behind<'t, 'a>(
     tokens: &'t [Token<'a>],
 ) -> Result<(Item, u32, &'t [Token<'a>]), Stop>
     ensures reads { (next : ItemTree → ℕ → Plan) → Parsed (λ x. reading (next (item_view x.0) x.1) x.2.now) (reading (predicates_plan names.now next place) tokens.now) result }
-    ensures room { IfOk result (λ x. x.1 ≤ 100) }
+    ensures room { IfOk result (λ x. x.1 ≤ Limits.NESTING) }
     ensures shorter { IfOk result (λ x. length x.2.now < length tokens.now) }
 {
     let mut predicates = Items::new(alloc);
     let mut deepest = 0;
     let mut rest = tokens;
-    'predicates: while begins_word(Keyword::Predicate, rest) {
-        let (at, behind) = part!(expect_word(Keyword::Predicate, rest));
+    'predicates: while begins(Mark::Word(Keyword::Predicate), rest) {
+        let (at, behind) = part!(expect(Mark::Word(Keyword::Predicate), rest));
         let (predicate, depth, after) = part!(predicate_behind(alloc, names, at, behind));
         deepest = deeper(deepest, depth);
         predicates.push(predicate)?;
         rest = remaining(after);
     }
-    let (_, rest) = part!(expect_close(rest));
+    let (_, rest) = part!(expect(Mark::Close, rest));
     Ok((Item::Predicates { place, predicates }, deepest, rest))
 }
 
@@ -382,12 +368,12 @@ fn typedef_behind<'t, 'a>(
     tokens: &'t [Token<'a>],
 ) -> Result<(Item, u32, &'t [Token<'a>]), Stop>
     ensures reads { (next : List ItemTree → ℕ → Plan) → Parsed (λ x. reading (after_item names.new next (item_view x.0) x.1) x.2.now) (reading (typedef_plan names.old next place) tokens.now) result }
-    ensures room { IfOk result (λ x. x.1 ≤ 100) }
+    ensures room { IfOk result (λ x. x.1 ≤ Limits.NESTING) }
     ensures shorter { IfOk result (λ x. length x.2.now < length tokens.now) }
 {
     let (typed, rest) = part!(type_name(alloc, names, tokens));
     let (text, name, rest) = part!(new_name(alloc, names, rest));
-    let (_, rest) = part!(expect(Symbol::Semicolon, rest));
+    let (_, rest) = part!(expect(Mark::Sign(Symbol::Semicolon), rest));
     names.add(text)?;
     Ok((Item::Typedef { place, typed, name }, 0, rest))
 }
@@ -399,7 +385,7 @@ fn typed_item<'t, 'a>(
     tokens: &'t [Token<'a>],
 ) -> Result<(Item, u32, &'t [Token<'a>]), Stop>
     ensures reads { (next : ItemTree → ℕ → Plan) → Parsed (λ x. reading (next (item_view x.0) x.1) x.2.now) (reading (typed names.now (typed_head names.now next)) tokens.now) result }
-    ensures room { IfOk result (λ x. x.1 ≤ 100) }
+    ensures room { IfOk result (λ x. x.1 ≤ Limits.NESTING) }
     ensures shorter { IfOk result (λ x. length x.2.now < length tokens.now) }
 {
     let (typed, rest) = part!(type_name(alloc, names, tokens));
@@ -414,7 +400,7 @@ fn item_of<'t, 'a>(
 ) -> Result<(Item, u32, &'t [Token<'a>]), Stop>
     requires { starts end_mark tokens.now ≡ false }
     ensures reads { (next : List ItemTree → ℕ → Plan) → Parsed (λ x. reading (after_item names.new next (item_view x.0) x.1) x.2.now) (reading (items names.old next) tokens.now) result }
-    ensures room { IfOk result (λ x. x.1 ≤ 100) }
+    ensures room { IfOk result (λ x. x.1 ≤ Limits.NESTING) }
     ensures shorter { IfOk result (λ x. length x.2.now < length tokens.now) }
 {
     let Some((token, rest)) = tokens.split_first() else {
@@ -446,12 +432,12 @@ pub fn items_of<'t, 'a>(
     let mut found = Items::new(alloc);
     let mut deepest = 0;
     let mut rest = tokens;
-    'items: while !begins_end(rest) {
+    'items: while !begins(Mark::End, rest) {
         let (item, depth, after) = part!(item_of(alloc, &mut names, rest));
         deepest = deeper(deepest, depth);
         found.push(item)?;
         rest = remaining(after);
     }
-    let (_, rest) = part!(expect_end(rest));
+    let (_, rest) = part!(expect(Mark::End, rest));
     Ok((found, deepest, rest))
 }

@@ -4,23 +4,14 @@
 //! leaves to do is what its plan leaves to do. What the plans take is said by `c0_grammar`.
 #![tactic(auto)]
 
-mod built;
-mod cursor;
-mod expressions;
 mod fault;
 mod faults;
-mod formulas;
 mod items;
 mod loops;
+mod macros;
 mod made;
-mod names;
-mod operators;
 mod reader;
-mod simple;
 mod statements;
-#[cfg(test)]
-mod tests;
-mod types;
 
 pub use fault::ParseFault;
 pub use reader::parse;

@@ -1,5 +1,5 @@
 //! The invariants of a loop.
-#![tactic(auto, using(crate::proofs::Failing::fails_as))]
+#![tactic(auto, using(c0_cursor::specs::Laws::fails_as))]
 
 ghost use Rattle.std.specs.Prelude.{◌≡◌, ◌≤◌, ◌<◌, ◌+◌, ℕ, true, false, List, [], ◌∷◌, map, length, IfOk};
 ghost use Rattle.c0_lex.specs.declared.token.Keyword.TheVariants.{LoopInvariant};
@@ -7,31 +7,19 @@ ghost use Rattle.parsed_tree.specs.Tree.{InvariantTree, InvariantsTree, StmtTree
 ghost use Rattle.parsed_tree.specs.Views.{invariant_view, invariants_view, stmt_view};
 ghost use Rattle.c0_grammar.specs.Tokens.{word_mark, close_mark};
 ghost use Rattle.c0_grammar.specs.Plan.{Plan, await, many, invariant_loop, invariant_plan, loop_body};
-ghost use Rattle.c0_parse.specs.Seen.{reading, opens_invariants, invariants_plan, Parsed};
-ghost use Rattle.c0_parse.specs.Read.{onto, onto_loop};
+ghost use Rattle.c0_cursor.specs.Seen.{reading, Parsed};
+ghost use Rattle.c0_parse.specs.Seen.{opens_invariants, invariants_plan};
+ghost use Rattle.c0_expressions.specs.Read.{onto};
+ghost use Rattle.c0_parse.specs.Read.{onto_loop};
 
-use crate::built::deeper;
-use crate::cursor::{
-    begins_close, begins_open, begins_word, expect_close, expect_open, expect_word, remaining,
-};
-use crate::fault::Stop;
-use crate::formulas::stated;
-use crate::names::Names;
+use crate::part;
+use c0_cursor::{Mark, Names, Stop, begins, expect, remaining};
+use c0_expressions::{deeper, stated};
 use c0_lex::{Keyword, Token};
-use gc0_base::Place;
+use gc0_base::{Limits, Place};
 use parsed_tree::{Invariant, Invariants, Stmt};
-use sqlite_items::Items;
+use sqlite_items::{Boxed, Items};
 use std::alloc::{AllocError, Global};
-
-// A part's value, or its fault as that of the whole.
-macro_rules! part {
-    ($part:expr) => {
-        match $part {
-            Ok(value) => value,
-            Err(fault) => return Err(fault),
-        }
-    };
-}
 
 /// What stands behind the head of a loop.
 #[derive(Drop)]
@@ -39,7 +27,7 @@ pub struct Inner {
     pub invariants: Items<Invariants>,
     /// How deep the invariants are.
     pub above: u32,
-    pub body: Stmt,
+    pub body: Boxed<Stmt>,
     /// How deep the body is.
     pub below: u32,
 }
@@ -49,8 +37,8 @@ fn begins_invariants<'t, 'a>(tokens: &'t [Token<'a>]) -> bool
     ensures { result ≡ opens_invariants tokens.now }
 {
     match tokens.split_first() {
-        Some((_, rest)) => begins_open(tokens)
-            && (begins_close(rest) || begins_word(Keyword::LoopInvariant, rest)),
+        Some((_, rest)) => begins(Mark::Open, tokens)
+            && (begins(Mark::Close, rest) || begins(Mark::Word(Keyword::LoopInvariant), rest)),
         None => false,
     }
 }
@@ -62,10 +50,10 @@ pub fn all_invariants<'t, 'a>(
     up: u32,
     tokens: &'t [Token<'a>],
 ) -> Result<(Items<Invariants>, u32, &'t [Token<'a>]), Stop>
-    requires { up ≤ 100 }
+    requires { up ≤ Limits.NESTING }
     ensures reads { (next : List InvariantsTree → ℕ → StmtTree → ℕ → Plan) → Parsed (λ x. reading (loop_body names.now up (onto_loop (map invariants_view x.0) x.1 next)) x.2.now) (reading (loop_body names.now up next) tokens.now) result }
     ensures over { IfOk result (λ x. opens_invariants x.2.now ≡ false) }
-    ensures room { IfOk result (λ x. up + x.1 ≤ 100) }
+    ensures room { IfOk result (λ x. up + x.1 ≤ Limits.NESTING) }
     ensures shorter { IfOk result (λ x. length x.2.now ≤ length tokens.now) }
 {
     let mut found = Items::new(alloc);
@@ -87,14 +75,14 @@ fn invariants_of<'t, 'a>(
     up: u32,
     tokens: &'t [Token<'a>],
 ) -> Result<(Invariants, u32, &'t [Token<'a>]), Stop>
-    requires { up ≤ 100 }
+    requires { up ≤ Limits.NESTING }
     ensures reads { (next : InvariantsTree → ℕ → Plan) → Parsed (λ x. reading (next (invariants_view x.0) x.1) x.2.now) (reading (invariants_plan names.now up next) tokens.now) result }
-    ensures room { IfOk result (λ x. up + x.1 ≤ 100) }
+    ensures room { IfOk result (λ x. up + x.1 ≤ Limits.NESTING) }
     ensures shorter { IfOk result (λ x. length x.2.now < length tokens.now) }
 {
-    let (place, rest) = part!(expect_open(tokens));
-    if begins_close(rest) {
-        let (_, rest) = part!(expect_close(rest));
+    let (place, rest) = part!(expect(Mark::Open, tokens));
+    if begins(Mark::Close, rest) {
+        let (_, rest) = part!(expect(Mark::Close, rest));
         return Ok((
             Invariants {
                 place,
@@ -125,12 +113,12 @@ fn invariant_of<'t, 'a>(
     up: u32,
     tokens: &'t [Token<'a>],
 ) -> Result<(Invariant, u32, &'t [Token<'a>]), Stop>
-    requires { up ≤ 100 }
+    requires { up ≤ Limits.NESTING }
     ensures reads { (next : InvariantTree → ℕ → Plan) → Parsed (λ x. reading (next (invariant_view x.0) x.1) x.2.now) (reading (await 0 (word_mark LoopInvariant) (invariant_plan names.now up next)) tokens.now) result }
-    ensures room { IfOk result (λ x. up + x.1 ≤ 100) }
+    ensures room { IfOk result (λ x. up + x.1 ≤ Limits.NESTING) }
     ensures shorter { IfOk result (λ x. length x.2.now < length tokens.now) }
 {
-    let (place, rest) = part!(expect_word(Keyword::LoopInvariant, tokens));
+    let (place, rest) = part!(expect(Mark::Word(Keyword::LoopInvariant), tokens));
     let (formula, depth, rest) = part!(stated(alloc, names, up, rest));
     Ok((Invariant { place, formula }, depth, rest))
 }
@@ -144,20 +132,20 @@ fn more_invariants<'t, 'a>(
     depth: u32,
     tokens: &'t [Token<'a>],
 ) -> Result<(Items<Invariant>, u32, &'t [Token<'a>]), Stop>
-    requires { up + depth ≤ 100 }
+    requires { up + depth ≤ Limits.NESTING }
     ensures reads { (next : List InvariantTree → ℕ → Plan) → Parsed (λ x. reading (next (map invariant_view x.0) x.1) x.2.now) (reading (many (invariant_loop names.now up) (onto (map invariant_view so_far) depth (λ cs d. await 0 close_mark (λ e. next cs d)))) tokens.now) result }
-    ensures room { IfOk result (λ x. up + x.1 ≤ 100) }
+    ensures room { IfOk result (λ x. up + x.1 ≤ Limits.NESTING) }
     ensures shorter { IfOk result (λ x. length x.2.now < length tokens.now) }
 {
     let mut found = so_far;
     let mut deepest = depth;
     let mut rest = tokens;
-    'clauses: while begins_word(Keyword::LoopInvariant, rest) {
+    'clauses: while begins(Mark::Word(Keyword::LoopInvariant), rest) {
         let (invariant, depth, after) = part!(invariant_of(alloc, names, up, rest));
         deepest = deeper(deepest, depth);
         found.push(invariant)?;
         rest = remaining(after);
     }
-    let (_, rest) = part!(expect_close(rest));
+    let (_, rest) = part!(expect(Mark::Close, rest));
     Ok((found, deepest, rest))
 }

@@ -1,6 +1,6 @@
 //! Statements made of their parts.
 
-ghost use Rattle.std.specs.Prelude.{◌≡◌, None, Some, map, IfOk};
+ghost use Rattle.std.specs.Prelude.{◌≡◌, None, Some, map};
 ghost use Rattle.std.specs.Option.{option_map};
 ghost use Rattle.parsed_tree.specs.Tree.{no_stmts, stmt_and, simple_stmt, block_stmt, if_stmt, while_stmt, for_stmt, return_stmt, assert_stmt, error_stmt};
 ghost use Rattle.parsed_tree.specs.Views.{expr_view, simple_view, invariants_view, stmt_view, stmts_view};
@@ -9,12 +9,11 @@ use crate::loops::Inner;
 use gc0_base::Place;
 use parsed_tree::{Expr, Simple, Stmt, Text};
 use sqlite_items::{Boxed, Items};
-use std::alloc::{AllocError, Global};
 
-pub fn simple_statement(simple: Simple) -> Stmt
+pub fn simple_statement(simple: Boxed<Simple>) -> Stmt
     ensures { stmt_view result ≡ simple_stmt (simple_view simple) }
 {
-    Stmt::Simple(simple)
+    Stmt::Simple(simple.into_inner())
 }
 
 pub fn block(place: Place, body: Items<Stmt>) -> Stmt
@@ -23,64 +22,56 @@ pub fn block(place: Place, body: Items<Stmt>) -> Stmt
     Stmt::Block { place, body }
 }
 
-pub fn when(alloc: Global, place: Place, test: Expr, yes: Stmt) -> Result<Stmt, AllocError>
-    ensures { IfOk result (λ x. stmt_view x ≡ if_stmt place (expr_view test) (stmt_view yes) no_stmts) }
+pub fn when(place: Place, test: Boxed<Expr>, yes: Boxed<Stmt>) -> Stmt
+    ensures { stmt_view result ≡ if_stmt place (expr_view test) (stmt_view yes) no_stmts }
 {
-    Ok(Stmt::If {
+    Stmt::If {
         place,
-        test,
-        yes: Boxed::new(alloc, yes)?,
+        test: test.into_inner(),
+        yes,
         no: None,
-    })
+    }
 }
 
-pub fn when_else(
-    alloc: Global,
-    place: Place,
-    test: Expr,
-    yes: Stmt,
-    no: Stmt,
-) -> Result<Stmt, AllocError>
-    ensures { IfOk result (λ x. stmt_view x ≡ if_stmt place (expr_view test) (stmt_view yes) (stmt_and (stmt_view no) no_stmts)) }
+pub fn when_else(place: Place, test: Boxed<Expr>, yes: Boxed<Stmt>, no: Boxed<Stmt>) -> Stmt
+    ensures { stmt_view result ≡ if_stmt place (expr_view test) (stmt_view yes) (stmt_and (stmt_view no) no_stmts) }
 {
-    Ok(Stmt::If {
+    Stmt::If {
         place,
-        test,
-        yes: Boxed::new(alloc, yes)?,
-        no: Some(Boxed::new(alloc, no)?),
-    })
+        test: test.into_inner(),
+        yes,
+        no: Some(no),
+    }
 }
 
-pub fn while_loop(alloc: Global, place: Place, test: Expr, inner: Inner) -> Result<Stmt, AllocError>
-    ensures { IfOk result (λ x. stmt_view x ≡ while_stmt place (expr_view test) (map invariants_view inner.invariants) (stmt_view inner.body)) }
+pub fn while_loop(place: Place, test: Boxed<Expr>, inner: Inner) -> Stmt
+    ensures { stmt_view result ≡ while_stmt place (expr_view test) (map invariants_view inner.invariants) (stmt_view inner.body) }
 {
-    Ok(Stmt::While {
+    Stmt::While {
         place,
-        test,
+        test: test.into_inner(),
         invariants: inner.invariants,
-        body: Boxed::new(alloc, inner.body)?,
-    })
+        body: inner.body,
+    }
 }
 
 pub fn for_loop(
-    alloc: Global,
     place: Place,
-    first: Option<Simple>,
-    test: Expr,
-    last: Option<Simple>,
+    first: Option<Boxed<Simple>>,
+    test: Boxed<Expr>,
+    last: Option<Boxed<Simple>>,
     inner: Inner,
-) -> Result<Stmt, AllocError>
-    ensures { IfOk result (λ x. stmt_view x ≡ for_stmt place (option_map simple_view first) (expr_view test) (option_map simple_view last) (map invariants_view inner.invariants) (stmt_view inner.body)) }
+) -> Stmt
+    ensures { stmt_view result ≡ for_stmt place (option_map simple_view first) (expr_view test) (option_map simple_view last) (map invariants_view inner.invariants) (stmt_view inner.body) }
 {
-    let body = Boxed::new(alloc, inner.body)?;
-    Ok(Stmt::For {
+    Stmt::For {
         place,
         first,
-        test,
+        test: test.into_inner(),
         last,
         invariants: inner.invariants,
-        body,
-    })
+        body: inner.body,
+    }
 }
 
 pub fn return_none(place: Place) -> Stmt
@@ -89,19 +80,22 @@ pub fn return_none(place: Place) -> Stmt
     Stmt::Return { place, value: None }
 }
 
-pub fn return_value(place: Place, value: Expr) -> Stmt
+pub fn return_value(place: Place, value: Boxed<Expr>) -> Stmt
     ensures { stmt_view result ≡ return_stmt place (Some (expr_view value)) }
 {
     Stmt::Return {
         place,
-        value: Some(value),
+        value: Some(value.into_inner()),
     }
 }
 
-pub fn assertion(place: Place, test: Expr) -> Stmt
+pub fn assertion(place: Place, test: Boxed<Expr>) -> Stmt
     ensures { stmt_view result ≡ assert_stmt place (expr_view test) }
 {
-    Stmt::Assert { place, test }
+    Stmt::Assert {
+        place,
+        test: test.into_inner(),
+    }
 }
 
 pub fn error_stop(place: Place, text: Text) -> Stmt

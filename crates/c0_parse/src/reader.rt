@@ -1,5 +1,5 @@
 //! A whole program.
-#![tactic(auto, using(crate::proofs::Failing::fails_as))]
+#![tactic(auto, using(c0_cursor::specs::Laws::fails_as))]
 
 ghost use Rattle.std.specs.Prelude.{◌≡◌, ◌<◌, ℕ, List, [], length, Ok, IfOk, IfErr};
 ghost use Rattle.parsed_tree.specs.declared.items.Library.{Library};
@@ -8,40 +8,33 @@ ghost use Rattle.parsed_tree.specs.Views.{program_view};
 ghost use Rattle.c0_grammar.specs.Tokens.{use_mark};
 ghost use Rattle.c0_grammar.specs.Plan.{Plan, await, many, use_loop, use_plan, start};
 ghost use Rattle.c0_grammar.specs.Reads.{EndsLast, Reads};
-ghost use Rattle.c0_parse.specs.Seen.{reading, Parsed as Answer};
+ghost use Rattle.c0_cursor.specs.Seen.{reading, Parsed as Answer};
 ghost use Rattle.c0_grammar.specs.Seen.{all_seen};
 ghost use Rattle.c0_parse.specs.TreeFaults.{tree_faults};
-ghost use Rattle.c0_parse.specs.Causes.{HasCause, AnswersTree, answer_of};
+ghost use Rattle.c0_parse.specs.Causes.{HasCause};
+ghost use Rattle.c0_parse.specs.Answers.{AnswersTree, answer_of};
 
-use crate::cursor::{begins_use, expect, expect_use, library, remaining};
-use crate::fault::{ParseFault, Stop};
+use crate::fault::ParseFault;
 use crate::faults::first_fault;
 use crate::items::items_of;
+use crate::part;
+use c0_cursor::{Mark, Stop, begins, expect, library, remaining};
 use c0_grammar::{run_is_complete, run_is_exact};
 use c0_lex::{Symbol, Token};
+use gc0_base::Limits;
 use parsed_tree::{Library, Parsed};
 use sqlite_items::Items;
 use std::alloc::Global;
-
-// A part's value, or its fault as that of the whole.
-macro_rules! part {
-    ($part:expr) => {
-        match $part {
-            Ok(value) => value,
-            Err(fault) => return Err(fault),
-        }
-    };
-}
 
 // A line that names a library.
 fn use_of<'t, 'a>(tokens: &'t [Token<'a>]) -> Result<(Library, &'t [Token<'a>]), Stop>
     ensures reads { (next : Library → ℕ → Plan) → Answer (λ x. reading (next x.0 0) x.1.now) (reading (await 0 use_mark (λ at. use_plan next)) tokens.now) result }
     ensures shorter { IfOk result (λ x. length x.1.now < length tokens.now) }
 {
-    let (_, rest) = part!(expect_use(tokens));
-    let (_, rest) = part!(expect(Symbol::Less, rest));
+    let (_, rest) = part!(expect(Mark::Use, tokens));
+    let (_, rest) = part!(expect(Mark::Sign(Symbol::Less), rest));
     let (library, rest) = part!(library(rest));
-    let (_, rest) = part!(expect(Symbol::Greater, rest));
+    let (_, rest) = part!(expect(Mark::Sign(Symbol::Greater), rest));
     Ok((library, rest))
 }
 
@@ -54,7 +47,7 @@ fn libraries_of<'t, 'a>(
 {
     let mut found = Items::new(alloc);
     let mut rest = tokens;
-    while begins_use(rest) {
+    while begins(Mark::Use, rest) {
         let (library, after) = part!(use_of(rest));
         found.push(library)?;
         rest = remaining(after);
@@ -100,10 +93,10 @@ fn answer_of(read: Result<Parsed, Stop>) -> Result<Parsed, ParseFault>
 ///
 /// The grammar is a part of that of the C0 Reference, with the annotations of Gradual C0.
 pub fn parse(alloc: Global, tokens: &[Token<'_>]) -> Result<Parsed, ParseFault>
-    ensures tree { EndsLast (all_seen tokens.now) → IfOk result (λ p. Reads 100 (all_seen tokens.now) (program_view p)) }
+    ensures tree { EndsLast (all_seen tokens.now) → IfOk result (λ p. Reads Limits.NESTING (all_seen tokens.now) (program_view p)) }
     ensures faultless { IfOk result (λ p. tree_faults (program_view p) ≡ []) }
     ensures cause { EndsLast (all_seen tokens.now) → IfErr result (λ e. HasCause (all_seen tokens.now) e) }
-    ensures complete { (p : ProgramTree) → Reads 100 (all_seen tokens.now) p → AnswersTree p result }
+    ensures complete { (p : ProgramTree) → Reads Limits.NESTING (all_seen tokens.now) p → AnswersTree p result }
 {
     run_is_exact();
     run_is_complete();

@@ -1,7 +1,8 @@
+-- What gets less in the cycle of `read`, and what holds at each turn of its loops.
 use Rattle.std.proofs.Common.{◌≡◌, drop, fold}
 use Rattle.parsed_tree.specs.Views.{exprs_view}
 use Rattle.c0_parse.specs.TreeFaults.{all_reads_in}
-use Rattle.c0_parse.specs.Causes.{earlier}
+use Rattle.c0_parse.specs.Answers.{earlier}
 use Rattle.c0_parse.proofs.faults.+read.Given as goal
 
 abbrev pub invariant-first_read_in-loop-part : goal.invariant-first_read_in-loop-part

@@ -1,7 +1,8 @@
+-- What gets less in the cycle of `stmt`, and what holds at each turn of its loops.
 use Rattle.std.proofs.Common.{◌≡◌, drop, fold}
 use Rattle.parsed_tree.specs.Views.{stmts_view}
 use Rattle.c0_parse.specs.TreeFaults.{stmts_faults}
-use Rattle.c0_parse.specs.Causes.{earlier}
+use Rattle.c0_parse.specs.Answers.{earlier}
 use Rattle.c0_parse.proofs.faults.+stmt.Given as goal
 
 abbrev pub invariant-in_stmts-loop-part : goal.invariant-in_stmts-loop-part

@@ -1,7 +1,8 @@
+-- `first_fault`: what is left to show of its clauses.
 use Rattle.std.proofs.Common.{rules, ◌≡◌, ◌∙◌, ap, map, fold, None}
 use Rattle.parsed_tree.specs.Views.{item_view, program_view}
 use Rattle.c0_parse.specs.TreeFaults.{all_of, item_faults, tree_faults}
-use Rattle.c0_parse.specs.Causes.{earlier}
+use Rattle.c0_parse.specs.Answers.{earlier}
 use Rattle.c0_parse.proofs.Firsts.{first_found}
 use Rattle.c0_parse.proofs.faults.first_fault.Goals as goal
 

@@ -1,7 +1,8 @@
+-- What holds at each turn of `first_fault`, and what gets less.
 use Rattle.std.proofs.Common.{◌≡◌, drop, fold, map}
 use Rattle.parsed_tree.specs.Views.{item_view, program_view}
 use Rattle.c0_parse.specs.TreeFaults.{all_of, item_faults, tree_faults}
-use Rattle.c0_parse.specs.Causes.{first_of, earlier}
+use Rattle.c0_parse.specs.Answers.{first_of, earlier}
 use Rattle.c0_parse.proofs.faults.first_fault.Given as goal
 
 abbrev pub invariant-loop-part : goal.invariant-loop-part

@@ -1,7 +1,8 @@
+-- What holds at each turn of `in_notes`, and what gets less.
 use Rattle.std.proofs.Common.{◌≡◌, drop, fold, map}
 use Rattle.parsed_tree.specs.Views.{note_view}
 use Rattle.c0_parse.specs.TreeFaults.{all_of, note_faults}
-use Rattle.c0_parse.specs.Causes.{earlier}
+use Rattle.c0_parse.specs.Answers.{earlier}
 use Rattle.c0_parse.proofs.faults.in_notes.Given as goal
 
 abbrev pub invariant-loop-part : goal.invariant-loop-part

@@ -1,11 +1,13 @@
+-- `contract_behind`: what is left to show of its clauses.
 use Rattle.std.proofs.Common.{[], ap, false, map, max, rules, sym, true, ◌++◌, ◌||◌, ◌∙◌, ◌≡◌}
 use Rattle.parsed_tree.specs.Views.{clause_view}
 use Rattle.c0_grammar.specs.Tokens.{word_mark}
 use Rattle.c0_grammar.specs.Plan.{after_part, clause_loop, many}
-use Rattle.c0_parse.specs.Seen.{reading, starts}
-use Rattle.c0_parse.specs.Read.{onto}
-use Rattle.c0_parse.proofs.Failing.{fails_as}
-use Rattle.c0_parse.proofs.Many.{clause_off, clause_on, closing, mapped_push, onto_done, onto_more, onto_start, same_onto}
+use Rattle.c0_cursor.specs.Seen.{reading, starts}
+use Rattle.c0_expressions.specs.Read.{onto}
+use Rattle.c0_cursor.specs.Laws.{fails_as}
+use Rattle.c0_parse.proofs.Parts.{clause_off, clause_on}
+use Rattle.c0_expressions.specs.Laws.{closing, mapped_push, onto_done, onto_more, onto_start, same_onto}
 use Rattle.c0_lex.specs.declared.token.Keyword.TheVariants as key
 use Rattle.c0_parse.proofs.items.contract_behind.Invariants.{framed}
 use Rattle.c0_parse.proofs.items.contract_behind.Goals as goal
@@ -46,15 +48,15 @@ clauses-preserved c = record {
   shorter = search rules;
 }
 
-pub returns-in-Err-expect_close-clause-reads : goal.returns-in-Err-expect_close-clause-reads
-returns-in-Err-expect_close-clause-reads c = λ next.
+pub returns-in-Err-expect-clause-reads : goal.returns-in-Err-expect-clause-reads
+returns-in-Err-expect-clause-reads c = λ next.
     let names = c.args.names.now in
     let xs = map clause_view c.clauses.clauses in
     let d = c.clauses.deepest in
     let ts = c.clauses.rest.now in
     let n : (starts (word_mark key.Requires) ts || starts (word_mark key.Ensures) ts) ≡ false = search rules in
     fails_as _ _ _ (c.clauses.invariant.reads next ∙ clause_off names (onto xs d (closing (framed next c.args.place))) ts n)
-    (c.in-Err-expect_close.ensures.reads (λ e. framed next c.args.place (xs ++ []) (max d 0)))
+    (c.in-Err-expect.ensures.reads (λ e. framed next c.args.place (xs ++ []) (max d 0)))
 
 pub returns-clause-reads : goal.returns-clause-reads
 returns-clause-reads c = λ next.
@@ -64,5 +66,5 @@ returns-clause-reads c = λ next.
     let ts = c.clauses.rest.now in
     let n : (starts (word_mark key.Requires) ts || starts (word_mark key.Ensures) ts) ≡ false = search rules in
     c.clauses.invariant.reads next ∙ clause_off names (onto xs d (closing (framed next c.args.place))) ts n
-    ∙ c.in-Ok-expect_close.ensures.reads (λ e. framed next c.args.place (xs ++ []) (max d 0))
-    ∙ ap (λ q. reading q c.in-Ok-expect_close.value.1.now) (onto_done xs d (framed next c.args.place))
+    ∙ c.in-Ok-expect.ensures.reads (λ e. framed next c.args.place (xs ++ []) (max d 0))
+    ∙ ap (λ q. reading q c.in-Ok-expect.value.1.now) (onto_done xs d (framed next c.args.place))

@@ -1,12 +1,13 @@
+-- `contracts_of`: what is left to show of its clauses.
 use Rattle.std.proofs.Common.{ap, false, map, rules, sym, true, ◌∙◌, ◌≡◌}
 use Rattle.parsed_tree.specs.Views.{contract_view}
 use Rattle.c0_grammar.specs.Tokens.{open_mark}
 use Rattle.c0_grammar.specs.Plan.{after_part, contract_loop, contract_plan, many}
-use Rattle.c0_parse.specs.Seen.{reading, starts}
-use Rattle.c0_parse.specs.Read.{onto}
-use Rattle.c0_parse.proofs.Failing.{fails_as}
-use Rattle.c0_parse.proofs.Many.{contract_enters, mapped_push, onto_done, onto_more, onto_start, same_onto}
-use Rattle.c0_parse.proofs.Many.{loop_on, loop_off}
+use Rattle.c0_cursor.specs.Seen.{reading, starts}
+use Rattle.c0_expressions.specs.Read.{onto}
+use Rattle.c0_cursor.specs.Laws.{fails_as}
+use Rattle.c0_parse.proofs.Parts.{contract_enters}
+use Rattle.c0_expressions.specs.Laws.{mapped_push, onto_done, onto_more, onto_start, same_onto, loop_on, loop_off}
 use Rattle.c0_parse.proofs.items.contracts_of.Goals as goal
 
 pub contracts-init : goal.contracts-init

@@ -1,3 +1,4 @@
+-- `fields_of`: what is left to show of its clauses.
 use Rattle.std.proofs.Common.{List, [], ap, append-nil, false, refl, rules, sym, true, ℕ, ◌++◌, ◌∙◌, ◌≡◌}
 use Rattle.gc0_base.specs.declared.place.Place.{Place}
 use Rattle.parsed_tree.specs.declared.expressions.Named.{Named}
@@ -5,10 +6,10 @@ use Rattle.parsed_tree.specs.declared.expressions.TypeName.{TypeName}
 use Rattle.parsed_tree.specs.declared.items.Field.{Field}
 use Rattle.c0_grammar.specs.Tokens.{sign_mark}
 use Rattle.c0_grammar.specs.Plan.{Plan, after_part, await, field_behind, field_loop, many}
-use Rattle.c0_parse.specs.Seen.{reading, starts}
+use Rattle.c0_cursor.specs.Seen.{reading, starts}
 use Rattle.c0_parse.specs.Read.{fields_then}
-use Rattle.c0_parse.proofs.Failing.{fails_as}
-use Rattle.c0_parse.proofs.Many.{field_off, field_on}
+use Rattle.c0_cursor.specs.Laws.{fails_as}
+use Rattle.c0_parse.proofs.Parts.{field_off, field_on}
 use Rattle.c0_parse.proofs.ItemSteps.{fields_more}
 use Rattle.c0_lex.specs.declared.token.Symbol.TheVariants as mark
 use Rattle.c0_parse.proofs.items.fields_of.Goals as goal

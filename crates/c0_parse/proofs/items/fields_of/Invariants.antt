@@ -1,7 +1,8 @@
+-- What holds at each turn of `fields_of`, and what gets less.
 use Rattle.std.proofs.Common.{List, [], length, ◌≡◌, ◌≤◌}
 use Rattle.parsed_tree.specs.declared.items.Field.{Field}
 use Rattle.c0_grammar.specs.Plan.{Plan, field_loop, many}
-use Rattle.c0_parse.specs.Seen.{reading}
+use Rattle.c0_cursor.specs.Seen.{reading}
 use Rattle.c0_parse.specs.Read.{fields_then}
 use Rattle.c0_parse.proofs.items.fields_of.Given as goal
 

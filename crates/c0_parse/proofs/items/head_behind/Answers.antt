@@ -1,3 +1,4 @@
+-- `head_behind`: what is left to show of its clauses.
 use Rattle.std.proofs.Common.{List, ap, arith, false, map, max, rules, sym, true, ℕ, ◌+◌, ◌∙◌, ◌≡◌, ◌≤◌}
 use Rattle.gc0_base.specs.declared.place.Place.{Place}
 use Rattle.parsed_tree.specs.declared.expressions.Named.{Named}
@@ -8,12 +9,12 @@ use Rattle.parsed_tree.specs.Tree.{ContractTree, ItemTree, StmtTrees, function_i
 use Rattle.parsed_tree.specs.Views.{contract_view, stmts_view}
 use Rattle.c0_grammar.specs.Tokens.{sign_mark}
 use Rattle.c0_grammar.specs.Plan.{Plan, await, behind_head, lines, params_plan, peek}
-use Rattle.c0_parse.specs.Seen.{reading, starts}
-use Rattle.c0_parse.proofs.Failing.{fails_as}
-use Rattle.c0_parse.proofs.Steps.{not_first}
-use Rattle.c0_parse.proofs.Many.{peek_low}
+use Rattle.c0_cursor.specs.Seen.{reading, starts}
+use Rattle.c0_cursor.specs.Laws.{fails_as, not_first}
+use Rattle.c0_expressions.specs.Laws.{peek_low}
 use Rattle.c0_lex.specs.declared.token.Symbol.TheVariants as mark
 use Rattle.c0_parse.proofs.items.head_behind.Goals as goal
+use Rattle.gc0_base.specs.declared.limits.TheConstants.Limits as limits
 
 abbrev function_of : (ItemTree → ℕ → Plan) → Head → List ContractTree → ℕ → StmtTrees → ℕ → Place → Plan
 function_of next h cs dc ss d e = next (function_item h cs ss e) (max dc (d + 1))
@@ -117,7 +118,7 @@ returns-in-Err-expect-3-clause-reads c = λ next.
     let dc = c.in-Ok-contracts_of.value.1 in
     let ts = c.in-Ok-contracts_of.value.2.now in
     let y : starts (sign_mark mark.OpenBrace) ts ≡ true = search rules in
-    let b : 1 ≤ 100 = omega arith in
+    let b : 1 ≤ limits.NESTING = omega arith in
     fails_as _ _ _ (c.in-Ok.ensures.reads (behind_result names next r)
     ∙ c.in-Ok-expect.ensures.reads (behind_paren names next r n)
     ∙ c.in-Ok-params_of.ensures.reads (behind_params names next r n)
@@ -135,7 +136,7 @@ returns-in-Err-lines_of-clause-reads c = λ next.
     let dc = c.in-Ok-contracts_of.value.1 in
     let ts = c.in-Ok-contracts_of.value.2.now in
     let y : starts (sign_mark mark.OpenBrace) ts ≡ true = search rules in
-    let b : 1 ≤ 100 = omega arith in
+    let b : 1 ≤ limits.NESTING = omega arith in
     fails_as _ _ _ (c.in-Ok.ensures.reads (behind_result names next r)
     ∙ c.in-Ok-expect.ensures.reads (behind_paren names next r n)
     ∙ c.in-Ok-params_of.ensures.reads (behind_params names next r n)
@@ -154,7 +155,7 @@ returns-clause-reads c = λ next.
     let dc = c.in-Ok-contracts_of.value.1 in
     let ts = c.in-Ok-contracts_of.value.2.now in
     let y : starts (sign_mark mark.OpenBrace) ts ≡ true = search rules in
-    let b : 1 ≤ 100 = omega arith in
+    let b : 1 ≤ limits.NESTING = omega arith in
     let x = c.in-Ok-lines_of.value in
     c.in-Ok.ensures.reads (behind_result names next r)
     ∙ c.in-Ok-expect.ensures.reads (behind_paren names next r n)

@@ -1,9 +1,10 @@
+-- `item_of`: what is left to show of its clauses.
 use Rattle.std.proofs.Common.{ap, false, rules, sym, ◌∙◌, ◌∷◌, ◌≡◌}
 use Rattle.c0_grammar.specs.Tokens.{end_mark}
 use Rattle.c0_grammar.specs.Plan.{after_item, is, items, items_step, type_step, typed, typed_head}
-use Rattle.c0_parse.specs.Seen.{reading, starts}
+use Rattle.c0_cursor.specs.Seen.{reading, starts}
 use Rattle.c0_grammar.specs.Seen.{what_of}
-use Rattle.c0_parse.proofs.Failing.{along}
+use Rattle.c0_cursor.specs.Laws.{along}
 use Rattle.c0_parse.proofs.ItemSteps.{item_at, item_typed}
 use Rattle.c0_lex.specs.declared.token.Keyword.TheVariants as key
 use Rattle.c0_lex.specs.declared.token.TokenKind.TheVariants as kind

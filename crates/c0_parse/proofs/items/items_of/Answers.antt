@@ -1,12 +1,13 @@
+-- `items_of`: what is left to show of its clauses.
 use Rattle.std.proofs.Common.{List, [], ap, map, rules, sym, true, ℕ, ◌∙◌, ◌≡◌}
 use Rattle.parsed_tree.specs.Tree.{ItemTree}
 use Rattle.parsed_tree.specs.Views.{item_view}
 use Rattle.c0_grammar.specs.Tokens.{end_mark}
 use Rattle.c0_grammar.specs.Plan.{after_item, Plan, items}
-use Rattle.c0_parse.specs.Seen.{reading, starts}
-use Rattle.c0_parse.specs.Read.{onto}
-use Rattle.c0_parse.proofs.Failing.{fails_as}
-use Rattle.c0_parse.proofs.Many.{mapped_push, onto_done, onto_more, onto_start, same_onto}
+use Rattle.c0_cursor.specs.Seen.{reading, starts}
+use Rattle.c0_expressions.specs.Read.{onto}
+use Rattle.c0_cursor.specs.Laws.{fails_as}
+use Rattle.c0_expressions.specs.Laws.{mapped_push, onto_done, onto_more, onto_start, same_onto}
 use Rattle.c0_parse.proofs.ItemSteps.{items_end, no_more}
 use Rattle.c0_parse.proofs.items.items_of.Goals as goal
 
@@ -45,8 +46,8 @@ items-preserved c = record {
   room = search rules;
 }
 
-pub returns-in-Err-expect_end : goal.returns-in-Err-expect_end
-returns-in-Err-expect_end c = record {
+pub returns-in-Err-expect : goal.returns-in-Err-expect
+returns-in-Err-expect c = record {
   reads = λ next.
       let names = c.items.names in
       let xs = map item_view c.items.found in
@@ -54,7 +55,7 @@ returns-in-Err-expect_end c = record {
       let ts = c.items.rest.now in
       let N : List ItemTree → ℕ → Plan = onto xs d next in
       let y : starts end_mark ts ≡ true = search rules in
-      fails_as _ _ _ (c.items.invariant.reads next ∙ items_end names N ts y) (c.in-Err-expect_end.ensures.reads (no_more N));
+      fails_as _ _ _ (c.items.invariant.reads next ∙ items_end names N ts y) (c.in-Err-expect.ensures.reads (no_more N));
 }
 
 pub returns : goal.returns
@@ -67,6 +68,6 @@ returns c = record {
       let N : List ItemTree → ℕ → Plan = onto xs d next in
       let y : starts end_mark ts ≡ true = search rules in
       c.items.invariant.reads next ∙ items_end names N ts y
-      ∙ c.in-Ok-expect_end.ensures.reads (no_more N)
-      ∙ ap (λ q. reading q c.in-Ok-expect_end.value.1.now) (onto_done xs d next);
+      ∙ c.in-Ok-expect.ensures.reads (no_more N)
+      ∙ ap (λ q. reading q c.in-Ok-expect.value.1.now) (onto_done xs d next);
 }

@@ -1,8 +1,9 @@
+-- `param_of`: what is left to show of its clauses.
 use Rattle.std.proofs.Common.{List, ℕ, ◌∙◌}
 use Rattle.parsed_tree.specs.declared.expressions.TypeName.{TypeName}
 use Rattle.parsed_tree.specs.declared.items.Param.{Param}
 use Rattle.c0_grammar.specs.Plan.{Plan, name}
-use Rattle.c0_parse.proofs.Failing.{fails_as}
+use Rattle.c0_cursor.specs.Laws.{fails_as}
 use Rattle.c0_parse.proofs.items.param_of.Goals as goal
 
 abbrev named : List (List ℕ) → (Param → Plan) → TypeName → Plan

@@ -1,14 +1,15 @@
+-- `params_behind`: what is left to show of its clauses.
 use Rattle.std.proofs.Common.{List, [], ap, append-nil, false, rules, sym, true, ℕ, ◌++◌, ◌∙◌, ◌≡◌}
 use Rattle.parsed_tree.specs.declared.items.Param.{Param}
 use Rattle.c0_grammar.specs.Tokens.{sign_mark}
 use Rattle.c0_grammar.specs.Plan.{Plan, after_part, many, param_loop}
-use Rattle.c0_parse.specs.Seen.{reading, starts}
+use Rattle.c0_cursor.specs.Seen.{reading, starts}
 use Rattle.c0_parse.specs.Read.{params_then}
-use Rattle.c0_parse.proofs.Failing.{fails_as}
-use Rattle.c0_parse.proofs.Many.{param_behind, param_enters}
+use Rattle.c0_cursor.specs.Laws.{fails_as}
+use Rattle.c0_parse.proofs.Parts.{param_behind, param_enters}
 use Rattle.c0_parse.proofs.ItemSteps.{params_more}
 use Rattle.c0_lex.specs.declared.token.Symbol.TheVariants as mark
-use Rattle.c0_parse.proofs.Many.{loop_on, loop_off}
+use Rattle.c0_expressions.specs.Laws.{loop_on, loop_off}
 use Rattle.c0_parse.proofs.items.params_behind.Goals as goal
 
 pub returns-in-Err-clause-reads : goal.returns-in-Err-clause-reads

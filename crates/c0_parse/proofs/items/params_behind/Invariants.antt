@@ -1,7 +1,8 @@
+-- What holds at each turn of `params_behind`, and what gets less.
 use Rattle.std.proofs.Common.{List, length, ◌≡◌, ◌≤◌}
 use Rattle.parsed_tree.specs.declared.items.Param.{Param}
 use Rattle.c0_grammar.specs.Plan.{Plan, many, param_loop}
-use Rattle.c0_parse.specs.Seen.{reading}
+use Rattle.c0_cursor.specs.Seen.{reading}
 use Rattle.c0_parse.specs.Read.{params_then}
 use Rattle.c0_parse.proofs.items.params_behind.Given as goal
 

@@ -1,12 +1,12 @@
+-- `params_of`: what is left to show of its clauses.
 use Rattle.std.proofs.Common.{List, [], ap, false, rules, sym, true, ℕ, ◌∙◌, ◌∷◌, ◌≡◌}
 use Rattle.gc0_base.specs.declared.place.Place.{Place}
 use Rattle.parsed_tree.specs.declared.items.Param.{Param}
 use Rattle.c0_grammar.specs.Tokens.{sign_mark}
 use Rattle.c0_grammar.specs.Plan.{Plan, many, param_loop, param_plan}
-use Rattle.c0_parse.specs.Seen.{reading, starts}
+use Rattle.c0_cursor.specs.Seen.{reading, starts}
 use Rattle.c0_parse.specs.Read.{params_then}
-use Rattle.c0_parse.proofs.Failing.{along, fails_as}
-use Rattle.c0_parse.proofs.Steps.{not_first, peek_await}
+use Rattle.c0_cursor.specs.Laws.{along, fails_as, not_first, peek_await}
 use Rattle.c0_lex.specs.declared.token.Symbol.TheVariants as mark
 use Rattle.c0_parse.proofs.items.params_of.Goals as goal
 

@@ -1,4 +1,6 @@
-use Rattle.std.proofs.Common.{List, ℕ, ◌∙◌}
+-- `predicate_behind`: what is left to show of its clauses.
+use Rattle.std.proofs.Common.{List, ap, sym, ℕ, ◌∙◌}
+use Rattle.c0_cursor.specs.Seen.{reading}
 use Rattle.gc0_base.specs.declared.place.Place.{Place}
 use Rattle.parsed_tree.specs.declared.expressions.Named.{Named}
 use Rattle.parsed_tree.specs.declared.items.Param.{Param}
@@ -7,7 +9,7 @@ use Rattle.parsed_tree.specs.Views.{expr_view}
 use Rattle.c0_grammar.specs.Tokens.{sign_mark}
 use Rattle.c0_grammar.specs.Allowed.{conjunct}
 use Rattle.c0_grammar.specs.Plan.{Plan, await, expr, params_plan}
-use Rattle.c0_parse.proofs.Failing.{fails_as}
+use Rattle.c0_cursor.specs.Laws.{fails_as}
 use Rattle.c0_lex.specs.declared.token.Symbol.TheVariants as mark
 use Rattle.c0_parse.proofs.items.predicate_behind.Goals as goal
 
@@ -76,3 +78,4 @@ returns-clause-reads c = λ next.
     ∙ c.in-Ok-expect-2.ensures.reads (equals c.args.names.now next c.args.place c.in-Ok.value.0 c.in-Ok-params_of.value.0)
     ∙ c.in-Ok-expression.ensures.reads (ended next c.args.place c.in-Ok.value.0 c.in-Ok-params_of.value.0)
     ∙ c.in-Ok-expect-3.ensures.reads (made next c.args.place c.in-Ok.value.0 c.in-Ok-params_of.value.0 (expr_view c.in-Ok-expression.value.0.expr) c.in-Ok-expression.value.0.depth)
+    ∙ ap (λ b. reading (made next c.args.place c.in-Ok.value.0 c.in-Ok-params_of.value.0 (expr_view b) c.in-Ok-expression.value.0.depth c.in-Ok-expect-3.value.0) c.in-Ok-expect-3.value.1.now) (sym c.into_inner.ensures)

@@ -1,13 +1,14 @@
+-- `predicates_behind`: what is left to show of its clauses.
 use Rattle.std.proofs.Common.{[], ap, false, map, max, rules, sym, true, ◌++◌, ◌∙◌, ◌≡◌}
 use Rattle.parsed_tree.specs.Views.{predicate_view}
 use Rattle.c0_grammar.specs.Tokens.{word_mark}
 use Rattle.c0_grammar.specs.Plan.{after_part, many, predicate_loop, predicate_plan}
-use Rattle.c0_parse.specs.Seen.{reading, starts}
-use Rattle.c0_parse.specs.Read.{onto}
-use Rattle.c0_parse.proofs.Failing.{fails_as}
-use Rattle.c0_parse.proofs.Many.{closing, mapped_push, onto_done, onto_more, onto_start, predicate_enters, same_onto}
+use Rattle.c0_cursor.specs.Seen.{reading, starts}
+use Rattle.c0_expressions.specs.Read.{onto}
+use Rattle.c0_cursor.specs.Laws.{fails_as}
+use Rattle.c0_expressions.specs.Laws.{closing, mapped_push, onto_done, onto_more, onto_start, same_onto, loop_on, loop_off}
+use Rattle.c0_parse.proofs.Parts.{predicate_enters}
 use Rattle.c0_lex.specs.declared.token.Keyword.TheVariants as key
-use Rattle.c0_parse.proofs.Many.{loop_on, loop_off}
 use Rattle.c0_parse.proofs.items.predicates_behind.Invariants.{framed}
 use Rattle.c0_parse.proofs.items.predicates_behind.Goals as goal
 
@@ -59,15 +60,15 @@ predicates-preserved c = record {
   shorter = search rules;
 }
 
-pub returns-in-Err-expect_close-clause-reads : goal.returns-in-Err-expect_close-clause-reads
-returns-in-Err-expect_close-clause-reads c = λ next.
+pub returns-in-Err-expect-clause-reads : goal.returns-in-Err-expect-clause-reads
+returns-in-Err-expect-clause-reads c = λ next.
     let names = c.args.names.now in
     let xs = map predicate_view c.predicates.predicates in
     let d = c.predicates.deepest in
     let ts = c.predicates.rest.now in
     let n : starts (word_mark key.Predicate) ts ≡ false = search rules in
     fails_as _ _ _ (c.predicates.invariant.reads next ∙ loop_off (predicate_loop names) (word_mark key.Predicate) (predicate_plan names) (predicate_enters names) (onto xs d (closing (framed next c.args.place))) ts n)
-    (c.in-Err-expect_close.ensures.reads (λ e. framed next c.args.place (xs ++ []) (max d 0)))
+    (c.in-Err-expect.ensures.reads (λ e. framed next c.args.place (xs ++ []) (max d 0)))
 
 pub returns-clause-reads : goal.returns-clause-reads
 returns-clause-reads c = λ next.
@@ -77,5 +78,5 @@ returns-clause-reads c = λ next.
     let ts = c.predicates.rest.now in
     let n : starts (word_mark key.Predicate) ts ≡ false = search rules in
     c.predicates.invariant.reads next ∙ loop_off (predicate_loop names) (word_mark key.Predicate) (predicate_plan names) (predicate_enters names) (onto xs d (closing (framed next c.args.place))) ts n
-    ∙ c.in-Ok-expect_close.ensures.reads (λ e. framed next c.args.place (xs ++ []) (max d 0))
-    ∙ ap (λ q. reading q c.in-Ok-expect_close.value.1.now) (onto_done xs d (framed next c.args.place))
+    ∙ c.in-Ok-expect.ensures.reads (λ e. framed next c.args.place (xs ++ []) (max d 0))
+    ∙ ap (λ q. reading q c.in-Ok-expect.value.1.now) (onto_done xs d (framed next c.args.place))

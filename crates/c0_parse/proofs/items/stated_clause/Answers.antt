@@ -1,3 +1,4 @@
+-- `stated_clause`: what is left to show of its clauses.
 use Rattle.std.proofs.Common.{ℕ}
 use Rattle.gc0_base.specs.declared.place.Place.{Place}
 use Rattle.parsed_tree.specs.Tree.{ClauseTree, FormulaTree}

@@ -1,3 +1,4 @@
+-- `struct_behind`: what is left to show of its clauses.
 use Rattle.std.proofs.Common.{List, false, rules, true, ℕ, ◌∙◌, ◌≡◌}
 use Rattle.gc0_base.specs.declared.place.Place.{Place}
 use Rattle.parsed_tree.specs.declared.expressions.Named.{Named}
@@ -5,9 +6,8 @@ use Rattle.parsed_tree.specs.declared.items.Field.{Field}
 use Rattle.parsed_tree.specs.Tree.{ItemTree, struct_item, struct_name}
 use Rattle.c0_grammar.specs.Tokens.{sign_mark}
 use Rattle.c0_grammar.specs.Plan.{Plan, fields_plan, peek, stars, typed_head}
-use Rattle.c0_parse.specs.Seen.{starts}
-use Rattle.c0_parse.proofs.Failing.{along, fails_as}
-use Rattle.c0_parse.proofs.Steps.{not_first, peek_await}
+use Rattle.c0_cursor.specs.Seen.{starts}
+use Rattle.c0_cursor.specs.Laws.{along, fails_as, not_first, peek_await}
 use Rattle.c0_lex.specs.declared.token.Symbol.TheVariants as mark
 use Rattle.parsed_tree.specs.declared.expressions.Base.TheVariants as base
 use Rattle.c0_parse.proofs.items.struct_behind.Goals as goal

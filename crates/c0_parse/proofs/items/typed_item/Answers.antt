@@ -1,5 +1,6 @@
+-- `typed_item`: what is left to show of its clauses.
 use Rattle.c0_grammar.specs.Plan.{typed_head}
-use Rattle.c0_parse.proofs.Failing.{along}
+use Rattle.c0_cursor.specs.Laws.{along}
 use Rattle.c0_parse.proofs.items.typed_item.Goals as goal
 
 pub returns-in-Err-clause-reads : goal.returns-in-Err-clause-reads

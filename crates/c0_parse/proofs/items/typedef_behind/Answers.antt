@@ -1,3 +1,4 @@
+-- `typedef_behind`: what is left to show of its clauses.
 use Rattle.std.proofs.Common.{List, ap, sym, ℕ, ◌∙◌, ◌∷◌}
 use Rattle.gc0_base.specs.declared.place.Place.{Place}
 use Rattle.parsed_tree.specs.declared.expressions.Named.{Named}
@@ -5,8 +6,8 @@ use Rattle.parsed_tree.specs.declared.expressions.TypeName.{TypeName}
 use Rattle.parsed_tree.specs.Tree.{ItemTree, typedef_item}
 use Rattle.c0_grammar.specs.Tokens.{sign_mark}
 use Rattle.c0_grammar.specs.Plan.{Plan, after_item, await, name}
-use Rattle.c0_parse.specs.Seen.{reading}
-use Rattle.c0_parse.proofs.Failing.{fails_as}
+use Rattle.c0_cursor.specs.Seen.{reading}
+use Rattle.c0_cursor.specs.Laws.{fails_as}
 use Rattle.c0_lex.specs.declared.token.Symbol.TheVariants as mark
 use Rattle.c0_parse.proofs.items.typedef_behind.Goals as goal
 

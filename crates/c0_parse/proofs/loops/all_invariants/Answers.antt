@@ -1,10 +1,12 @@
+-- `all_invariants`: what is left to show of its clauses.
 use Rattle.std.proofs.Common.{ap, map, rules, sym, true, ◌∙◌, ◌≡◌}
 use Rattle.parsed_tree.specs.Views.{invariants_view}
 use Rattle.c0_grammar.specs.Plan.{loop_body}
-use Rattle.c0_parse.specs.Seen.{opens_invariants, reading}
+use Rattle.c0_parse.specs.Seen.{opens_invariants}
+use Rattle.c0_cursor.specs.Seen.{reading}
 use Rattle.c0_parse.specs.Read.{onto_loop}
-use Rattle.c0_parse.proofs.Failing.{fails_as}
-use Rattle.c0_parse.proofs.Many.{mapped_push, same_onto}
+use Rattle.c0_cursor.specs.Laws.{fails_as}
+use Rattle.c0_expressions.specs.Laws.{mapped_push, same_onto}
 use Rattle.c0_parse.proofs.Lines.{after_one, loop_more, loop_start}
 use Rattle.c0_parse.proofs.Lines.{loop_on}
 use Rattle.c0_parse.proofs.loops.all_invariants.Goals as goal

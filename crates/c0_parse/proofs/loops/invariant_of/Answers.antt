@@ -1,8 +1,9 @@
+-- `invariant_of`: what is left to show of its clauses.
 use Rattle.std.proofs.Common.{ℕ, ◌∙◌}
 use Rattle.gc0_base.specs.declared.place.Place.{Place}
 use Rattle.parsed_tree.specs.Tree.{FormulaTree, InvariantTree}
 use Rattle.c0_grammar.specs.Plan.{Plan, invariant_at, invariant_plan}
-use Rattle.c0_parse.proofs.Failing.{fails_as}
+use Rattle.c0_cursor.specs.Laws.{fails_as}
 use Rattle.c0_parse.proofs.loops.invariant_of.Goals as goal
 
 abbrev framed : (InvariantTree → ℕ → Plan) → Place → FormulaTree → ℕ → Plan

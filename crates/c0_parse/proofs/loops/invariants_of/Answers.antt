@@ -1,14 +1,14 @@
+-- `invariants_of`: what is left to show of its clauses.
 use Rattle.std.proofs.Common.{List, [], ap, false, map, rules, sym, true, ℕ, ◌∙◌, ◌∷◌, ◌≡◌}
 use Rattle.gc0_base.specs.declared.place.Place.{Place}
 use Rattle.parsed_tree.specs.Tree.{InvariantTree, InvariantsTree}
 use Rattle.parsed_tree.specs.Views.{invariant_view}
 use Rattle.c0_grammar.specs.Tokens.{close_mark, word_mark}
 use Rattle.c0_grammar.specs.Plan.{Plan, await, invariant_loop, invariant_plan, invariants_at, many, peek}
-use Rattle.c0_parse.specs.Seen.{reading, starts}
-use Rattle.c0_parse.specs.Read.{onto}
-use Rattle.c0_parse.proofs.Failing.{fails_as}
-use Rattle.c0_parse.proofs.Steps.{not_first, peek_await}
-use Rattle.c0_parse.proofs.Many.{closing}
+use Rattle.c0_cursor.specs.Seen.{reading, starts}
+use Rattle.c0_expressions.specs.Read.{onto}
+use Rattle.c0_cursor.specs.Laws.{fails_as, not_first, peek_await}
+use Rattle.c0_expressions.specs.Laws.{closing}
 use Rattle.c0_lex.specs.declared.token.Keyword.TheVariants as key
 use Rattle.c0_parse.proofs.loops.invariants_of.Goals as goal
 
@@ -30,26 +30,26 @@ inner names up next at = peek 0 close_mark (none_of next at) (first_of names up 
 pub returns-in-Err-clause-reads : goal.returns-in-Err-clause-reads
 returns-in-Err-clause-reads c = λ next. c.in-Err.ensures.reads (inner c.args.names.now c.args.up next)
 
-pub returns-in-Err-expect_close-clause-reads : goal.returns-in-Err-expect_close-clause-reads
-returns-in-Err-expect_close-clause-reads c = λ next.
+pub returns-in-Err-expect-clause-reads : goal.returns-in-Err-expect-clause-reads
+returns-in-Err-expect-clause-reads c = λ next.
     let names = c.args.names.now in
     let at = c.in-Ok.value.0 in
     let rest = c.in-Ok.value.1.now in
     let y : starts close_mark rest ≡ true = search rules in
     fails_as _ _ _ (c.in-Ok.ensures.reads (inner names c.args.up next)
     ∙ peek_await 0 close_mark (none_of next at) (first_of names c.args.up next at) rest y)
-    (c.in-Err-expect_close.ensures.reads (none_of next at))
+    (c.in-Err-expect.ensures.reads (none_of next at))
 
-pub returns-then-begins_close-clause-reads : goal.returns-then-begins_close-clause-reads
-returns-then-begins_close-clause-reads c = λ next.
+pub returns-then-begins-clause-reads : goal.returns-then-begins-clause-reads
+returns-then-begins-clause-reads c = λ next.
     let names = c.args.names.now in
     let at = c.in-Ok.value.0 in
     let rest = c.in-Ok.value.1.now in
     let y : starts close_mark rest ≡ true = search rules in
     c.in-Ok.ensures.reads (inner names c.args.up next)
     ∙ peek_await 0 close_mark (none_of next at) (first_of names c.args.up next at) rest y
-    ∙ c.in-Ok-expect_close.ensures.reads (none_of next at)
-    ∙ ap (λ l. reading (next (invariants_at at (map invariant_view l)) 0) c.in-Ok-expect_close.value.1.now) (sym c.new.ensures)
+    ∙ c.in-Ok-expect.ensures.reads (none_of next at)
+    ∙ ap (λ l. reading (next (invariants_at at (map invariant_view l)) 0) c.in-Ok-expect.value.1.now) (sym c.new.ensures)
 
 pub returns-in-Err-invariant_of-clause-reads : goal.returns-in-Err-invariant_of-clause-reads
 returns-in-Err-invariant_of-clause-reads c = λ next.

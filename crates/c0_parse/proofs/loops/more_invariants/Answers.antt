@@ -1,13 +1,14 @@
+-- `more_invariants`: what is left to show of its clauses.
 use Rattle.std.proofs.Common.{[], ap, false, map, max, rules, sym, true, ◌++◌, ◌∙◌, ◌≡◌}
 use Rattle.parsed_tree.specs.Views.{invariant_view}
 use Rattle.c0_grammar.specs.Tokens.{word_mark}
 use Rattle.c0_grammar.specs.Plan.{after_part, invariant_loop, invariant_plan, many}
-use Rattle.c0_parse.specs.Seen.{reading, starts}
-use Rattle.c0_parse.specs.Read.{onto}
-use Rattle.c0_parse.proofs.Failing.{fails_as}
-use Rattle.c0_parse.proofs.Many.{closing, invariant_enters, mapped_push, onto_done, onto_more, same_onto}
+use Rattle.c0_cursor.specs.Seen.{reading, starts}
+use Rattle.c0_expressions.specs.Read.{onto}
+use Rattle.c0_cursor.specs.Laws.{fails_as}
+use Rattle.c0_expressions.specs.Laws.{closing, mapped_push, onto_done, onto_more, same_onto, loop_on, loop_off}
+use Rattle.c0_parse.proofs.Parts.{invariant_enters}
 use Rattle.c0_lex.specs.declared.token.Keyword.TheVariants as key
-use Rattle.c0_parse.proofs.Many.{loop_on, loop_off}
 use Rattle.c0_parse.proofs.loops.more_invariants.Goals as goal
 
 pub returns-in-Err-clause-reads : goal.returns-in-Err-clause-reads
@@ -40,8 +41,8 @@ clauses-preserved c = record {
   shorter = search rules;
 }
 
-pub returns-in-Err-expect_close-clause-reads : goal.returns-in-Err-expect_close-clause-reads
-returns-in-Err-expect_close-clause-reads c = λ next.
+pub returns-in-Err-expect-clause-reads : goal.returns-in-Err-expect-clause-reads
+returns-in-Err-expect-clause-reads c = λ next.
     let names = c.args.names.now in
     let xs = map invariant_view c.clauses.found in
     let d = c.clauses.deepest in
@@ -49,7 +50,7 @@ returns-in-Err-expect_close-clause-reads c = λ next.
     let n : starts (word_mark key.LoopInvariant) ts ≡ false = search rules in
     fails_as _ _ _ (c.clauses.invariant.reads next
     ∙ loop_off (invariant_loop names c.args.up) (word_mark key.LoopInvariant) (invariant_plan names c.args.up) (invariant_enters names c.args.up) (onto xs d (closing next)) ts n)
-    (c.in-Err-expect_close.ensures.reads (λ e. next (xs ++ []) (max d 0)))
+    (c.in-Err-expect.ensures.reads (λ e. next (xs ++ []) (max d 0)))
 
 pub returns-clause-reads : goal.returns-clause-reads
 returns-clause-reads c = λ next.
@@ -60,5 +61,5 @@ returns-clause-reads c = λ next.
     let n : starts (word_mark key.LoopInvariant) ts ≡ false = search rules in
     c.clauses.invariant.reads next
     ∙ loop_off (invariant_loop names c.args.up) (word_mark key.LoopInvariant) (invariant_plan names c.args.up) (invariant_enters names c.args.up) (onto xs d (closing next)) ts n
-    ∙ c.in-Ok-expect_close.ensures.reads (λ e. next (xs ++ []) (max d 0))
-    ∙ ap (λ q. reading q c.in-Ok-expect_close.value.1.now) (onto_done xs d next)
+    ∙ c.in-Ok-expect.ensures.reads (λ e. next (xs ++ []) (max d 0))
+    ∙ ap (λ q. reading q c.in-Ok-expect.value.1.now) (onto_done xs d next)

@@ -1,3 +1,4 @@
+-- `when_else`: what is left to show of its clauses.
 use Rattle.std.proofs.Common.{rules, ◌≡◌, sym, subst, Some}
 use Rattle.parsed_tree.specs.declared.statements.Stmt.TheVariants as stmt
 use Rattle.parsed_tree.specs.declared.statements.Stmt.TheViews.{the_lemmas}
@@ -8,6 +9,5 @@ use Rattle.c0_parse.proofs.made.when_else.Goals as goal
 
 pub returns : goal.returns
 returns c =
-    subst (λ x. stmt_view (stmt.If c.args.place c.args.test x (Some c.in_ok-new-2.field-0)) ≡ if_stmt c.args.place (expr_view c.args.test) (stmt_view c.args.yes) (stmt_and (stmt_view c.args.no) no_stmts)) (sym c.in_ok-new.ensures)
-    (subst (λ y. stmt_view (stmt.If c.args.place c.args.test c.args.yes (Some y)) ≡ if_stmt c.args.place (expr_view c.args.test) (stmt_view c.args.yes) (stmt_and (stmt_view c.args.no) no_stmts)) (sym c.in_ok-new-2.ensures)
-    (search (rules, the_lemmas, fold_out-Stmt)))
+    subst (λ x. stmt_view (stmt.If c.args.place x c.args.yes (Some c.args.no)) ≡ if_stmt c.args.place (expr_view c.args.test) (stmt_view c.args.yes) (stmt_and (stmt_view c.args.no) no_stmts)) (sym c.into_inner.ensures)
+    (search (rules, the_lemmas, fold_out-Stmt))

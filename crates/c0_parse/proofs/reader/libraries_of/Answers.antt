@@ -1,8 +1,9 @@
+-- `libraries_of`: what is left to show of its clauses.
 use Rattle.std.proofs.Common.{rules, ◌≡◌, ◌∙◌, ap, sym, true, false}
 use Rattle.c0_grammar.specs.Tokens.{use_mark}
 use Rattle.c0_grammar.specs.Plan.{many, use_loop}
-use Rattle.c0_parse.specs.Seen.{starts, reading}
-use Rattle.c0_parse.proofs.Failing.{fails_as}
+use Rattle.c0_cursor.specs.Seen.{starts, reading}
+use Rattle.c0_cursor.specs.Laws.{fails_as}
 use Rattle.c0_parse.proofs.Uses.{behind_uses, after_use, use_on, use_end, use_more}
 use Rattle.c0_parse.proofs.reader.libraries_of.Goals as goal
 

@@ -1,8 +1,9 @@
+-- `tree_of`: what is left to show of its clauses.
 use Rattle.std.proofs.Common.{List, ℕ}
 use Rattle.parsed_tree.specs.declared.items.Library.{Library}
 use Rattle.parsed_tree.specs.Tree.{ItemTree}
 use Rattle.c0_grammar.specs.Plan.{Plan, finished, program_plan}
-use Rattle.c0_parse.proofs.Failing.{fails_as}
+use Rattle.c0_cursor.specs.Laws.{fails_as}
 use Rattle.c0_parse.proofs.reader.tree_of.Goals as goal
 
 abbrev behind_all : List Library → ℕ → Plan

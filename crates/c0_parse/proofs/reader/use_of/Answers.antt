@@ -1,10 +1,11 @@
+-- `use_of`: what is left to show of its clauses.
 use Rattle.std.proofs.Common.{◌∙◌, ℕ}
 use Rattle.gc0_base.specs.declared.place.Place.{Place}
 use Rattle.c0_lex.specs.declared.token.Symbol.TheVariants as mark
 use Rattle.parsed_tree.specs.declared.items.Library.{Library}
 use Rattle.c0_grammar.specs.Tokens.{sign_mark}
 use Rattle.c0_grammar.specs.Plan.{Plan, await, library_name_of, use_plan}
-use Rattle.c0_parse.proofs.Failing.{fails_as}
+use Rattle.c0_cursor.specs.Laws.{fails_as}
 use Rattle.c0_parse.proofs.reader.use_of.Goals as goal
 
 abbrev named : (Library → ℕ → Plan) → Place → Plan

@@ -1,3 +1,4 @@
+-- The cycle of `statement`: what is left to show of its clauses.
 use Rattle.std.proofs.Common.{List, None, Option, ap, arith, false, map, max, rules, sym, true, ℕ, ◌+◌, ◌∙◌, ◌∷◌, ◌≡◌}
 use Rattle.gc0_base.specs.declared.place.Place.{Place}
 use Rattle.std.specs.Option.{option_map}
@@ -6,17 +7,17 @@ use Rattle.parsed_tree.specs.Views.{expr_view, invariants_view, simple_view, stm
 use Rattle.c0_grammar.specs.Tokens.{sign_mark, word_mark}
 use Rattle.c0_grammar.specs.Allowed.{code}
 use Rattle.c0_grammar.specs.Plan.{Plan, after_line, await, block_plan, body, compound_step, expr, for_plan, if_plan, is, lines, loop_body, optional_simple, peek, simple, simple_line, while_plan}
-use Rattle.c0_parse.specs.Seen.{line_reading, reading, starts}
+use Rattle.c0_parse.specs.Seen.{line_reading}
+use Rattle.c0_cursor.specs.Seen.{reading, starts}
 use Rattle.c0_grammar.specs.Seen.{what_of}
 use Rattle.c0_parse.specs.Read.{onto_loop}
-use Rattle.c0_parse.proofs.Failing.{along, fails_as}
-use Rattle.c0_parse.proofs.Steps.{not_first, peek_await, step_on}
+use Rattle.c0_cursor.specs.Laws.{along, fails_as, not_first, peek_await, step_on}
 use Rattle.c0_parse.proofs.Lines.{body_line, ended, line_at, line_simple, lines_done, lines_end, lines_more, lines_on, lines_start, loop_done, onto_lines, same_lines, stmts_pushed}
 use Rattle.c0_lex.specs.declared.token.Symbol.TheVariants as mark
 use Rattle.c0_lex.specs.declared.token.Keyword.TheVariants as key
 use Rattle.c0_lex.specs.declared.token.TokenKind.TheVariants as kind
 use Rattle.c0_parse.proofs.Lines.{loop_off}
-use Rattle.c0_parse.proofs.Many.{same}
+use Rattle.c0_expressions.specs.Laws.{same}
 use Rattle.c0_parse.proofs.statements.+statement.Goals as goal
 
 pub statement-returns-in-Keyword-If-clause-reads : goal.statement-returns-in-Keyword-If-clause-reads
@@ -103,8 +104,14 @@ statement-returns-in_default-kind-clause-reads t c = λ next.
     ∙ ap (reading (simple names c.args.whole (c.args.up + 1) (simple_line next))) (sym s))
     (c.simple_behind.ensures.reads next)
 
+pub body_of-returns-in-Err-clause-reads : goal.body_of-returns-in-Err-clause-reads
+body_of-returns-in-Err-clause-reads t c = λ next. fails_as _ _ _ (body_line c.args.names.now c.args.up next c.args.tokens.now) (c.in-Err.ensures.reads next)
+
 pub body_of-returns-clause-reads : goal.body_of-returns-clause-reads
-body_of-returns-clause-reads t c = λ next. along _ _ _ _ (body_line c.args.names.now c.args.up next c.args.tokens.now) (c.statement.ensures.reads next)
+body_of-returns-clause-reads t c = λ next.
+    body_line c.args.names.now c.args.up next c.args.tokens.now
+    ∙ c.in-Ok.ensures.reads next
+    ∙ ap (λ s. reading (next (stmt_view s) c.in-Ok.value.1) c.in-Ok.value.2.now) (sym c.in_ok-new.ensures)
 
 abbrev blocked : (StmtTree → ℕ → Plan) → Place → StmtTrees → ℕ → Place → Plan
 blocked next at ss d e = next (block_stmt at ss) (d + 1)
@@ -154,8 +161,8 @@ if_behind-returns-in-Err-body_of-clause-reads t c = λ next.
     ∙ c.in-Ok.ensures.reads (if_body names up next at))
     (c.in-Err-body_of.ensures.reads (if_more names up next at e d))
 
-pub if_behind-returns-then-not-begins_word-clause-reads : goal.if_behind-returns-then-not-begins_word-clause-reads
-if_behind-returns-then-not-begins_word-clause-reads t c = λ next.
+pub if_behind-returns-then-not-begins-clause-reads : goal.if_behind-returns-then-not-begins-clause-reads
+if_behind-returns-then-not-begins-clause-reads t c = λ next.
     let names = c.args.names.now in
     let up = c.args.up in
     let at = c.args.place in
@@ -170,10 +177,10 @@ if_behind-returns-then-not-begins_word-clause-reads t c = λ next.
     ∙ c.in-Ok.ensures.reads (if_body names up next at)
     ∙ c.in-Ok-body_of.ensures.reads (if_more names up next at e d)
     ∙ not_first 0 (word_mark key.Else) (if_else names up next at e d s ds) (if_alone next at e d s ds) ts n
-    ∙ same (λ z k. reading (next z k) ts) _ _ _ _ (sym c.in_ok-when.ensures) m
+    ∙ same (λ z k. reading (next z k) ts) _ _ _ _ (sym c.when.ensures) m
 
-pub if_behind-returns-in-Err-expect_word-clause-reads : goal.if_behind-returns-in-Err-expect_word-clause-reads
-if_behind-returns-in-Err-expect_word-clause-reads t c = λ next.
+pub if_behind-returns-in-Err-expect-clause-reads : goal.if_behind-returns-in-Err-expect-clause-reads
+if_behind-returns-in-Err-expect-clause-reads t c = λ next.
     let names = c.args.names.now in
     let up = c.args.up in
     let at = c.args.place in
@@ -187,7 +194,7 @@ if_behind-returns-in-Err-expect_word-clause-reads t c = λ next.
     ∙ c.in-Ok.ensures.reads (if_body names up next at)
     ∙ c.in-Ok-body_of.ensures.reads (if_more names up next at e d)
     ∙ peek_await 0 (word_mark key.Else) (if_else names up next at e d s ds) (if_alone next at e d s ds) ts y)
-    (c.in-Err-expect_word.ensures.reads (if_else names up next at e d s ds))
+    (c.in-Err-expect.ensures.reads (if_else names up next at e d s ds))
 
 pub if_behind-returns-in-Err-body_of-2-clause-reads : goal.if_behind-returns-in-Err-body_of-2-clause-reads
 if_behind-returns-in-Err-body_of-2-clause-reads t c = λ next.
@@ -204,7 +211,7 @@ if_behind-returns-in-Err-body_of-2-clause-reads t c = λ next.
     ∙ c.in-Ok.ensures.reads (if_body names up next at)
     ∙ c.in-Ok-body_of.ensures.reads (if_more names up next at e d)
     ∙ peek_await 0 (word_mark key.Else) (if_else names up next at e d s ds) (if_alone next at e d s ds) ts y
-    ∙ c.in-Ok-expect_word.ensures.reads (if_else names up next at e d s ds))
+    ∙ c.in-Ok-expect.ensures.reads (if_else names up next at e d s ds))
     (c.in-Err-body_of-2.ensures.reads (if_both next at e d s ds))
 
 pub if_behind-returns-clause-reads : goal.if_behind-returns-clause-reads
@@ -224,9 +231,9 @@ if_behind-returns-clause-reads t c = λ next.
     ∙ c.in-Ok.ensures.reads (if_body names up next at)
     ∙ c.in-Ok-body_of.ensures.reads (if_more names up next at e d)
     ∙ peek_await 0 (word_mark key.Else) (if_else names up next at e d s ds) (if_alone next at e d s ds) ts y
-    ∙ c.in-Ok-expect_word.ensures.reads (if_else names up next at e d s ds)
+    ∙ c.in-Ok-expect.ensures.reads (if_else names up next at e d s ds)
     ∙ c.in-Ok-body_of-2.ensures.reads (if_both next at e d s ds)
-    ∙ same (λ z k. reading (next z k) o.2.now) _ _ _ _ (sym c.in_ok-when_else.ensures) m
+    ∙ same (λ z k. reading (next z k) o.2.now) _ _ _ _ (sym c.when_else.ensures) m
 
 abbrev while_made : (StmtTree → ℕ → Plan) → Place → ExprTree → ℕ → List InvariantsTree → ℕ → StmtTree → ℕ → Plan
 while_made next at e d is di s ds = next (while_stmt at e is s) (max d (max di ds) + 1)
@@ -265,7 +272,7 @@ while_behind-returns-clause-reads t c = λ next.
     step_on (up + 2) (while_plan names up next at) at c.args.tokens.now (omega arith)
     ∙ c.in-Ok.ensures.reads (while_rest names up next at)
     ∙ c.in-Ok-loop_of.ensures.reads (while_made next at e d)
-    ∙ same (λ z k. reading (next z k) x.1.now) _ _ _ _ (sym c.in_ok-while_loop.ensures) m
+    ∙ same (λ z k. reading (next z k) x.1.now) _ _ _ _ (sym c.while_loop.ensures) m
 
 abbrev for_made : (StmtTree → ℕ → Plan) → Place → Option SimpleTree → ℕ → ExprTree → ℕ → Option SimpleTree → ℕ → List InvariantsTree → ℕ → StmtTree → ℕ → Plan
 for_made next at x dx e d y dy is di s ds = next (for_stmt at x e y is s) (max dx (max d (max dy (max di ds))) + 1)
@@ -384,18 +391,19 @@ for_behind-returns-clause-reads t c = λ next.
     ∙ c.in-Ok-expect.ensures.reads (for_last names up next at x dx e d)
     ∙ c.in-Ok-optional_simple-2.ensures.reads (for_rest names up next at x dx e d)
     ∙ c.in-Ok-loop_of.ensures.reads (for_made next at x dx e d y dy)
-    ∙ same (λ t k. reading (next t k) z.1.now) _ _ _ _ (sym c.in_ok-for_loop.ensures) m
+    ∙ same (λ t k. reading (next t k) z.1.now) _ _ _ _ (sym c.for_loop.ensures) m
 
-pub loop_of-returns-in-Err-statement-clause-reads : goal.loop_of-returns-in-Err-statement-clause-reads
-loop_of-returns-in-Err-statement-clause-reads t c = λ next.
+pub loop_of-returns-in-Err-body_of-clause-reads : goal.loop_of-returns-in-Err-body_of-clause-reads
+loop_of-returns-in-Err-body_of-clause-reads t c = λ next.
     let names = c.args.names.now in
     let is = map invariants_view c.in-Ok.value.0 in
     let d = c.in-Ok.value.1 in
     let ts = c.in-Ok.value.2.now in
     fails_as _ _ _ (c.in-Ok.ensures.reads next
     ∙ loop_off names c.args.up (onto_loop is d next) ts c.in-Ok.ensures.over
-    ∙ ap (λ k. line_reading names false c.args.up k ts) (loop_done is d next))
-    (c.in-Err-statement.ensures.reads (next is d))
+    ∙ ap (λ k. line_reading names false c.args.up k ts) (loop_done is d next)
+    ∙ sym (body_line names c.args.up (next is d) ts))
+    (c.in-Err-body_of.ensures.reads (next is d))
 
 pub loop_of-returns-clause-reads : goal.loop_of-returns-clause-reads
 loop_of-returns-clause-reads t c = λ next.
@@ -406,7 +414,8 @@ loop_of-returns-clause-reads t c = λ next.
     c.in-Ok.ensures.reads next
     ∙ loop_off names c.args.up (onto_loop is d next) ts c.in-Ok.ensures.over
     ∙ ap (λ k. line_reading names false c.args.up k ts) (loop_done is d next)
-    ∙ c.in-Ok-statement.ensures.reads (next is d)
+    ∙ sym (body_line names c.args.up (next is d) ts)
+    ∙ c.in-Ok-body_of.ensures.reads (next is d)
 
 pub lines_of-lines-init : goal.lines_of-lines-init
 lines_of-lines-init t c = record {

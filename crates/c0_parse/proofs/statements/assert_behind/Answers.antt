@@ -1,12 +1,12 @@
+-- `assert_behind`: what is left to show of its clauses.
 use Rattle.std.proofs.Common.{ap, arith, sym, ℕ, ◌+◌, ◌∙◌}
 use Rattle.gc0_base.specs.declared.place.Place.{Place}
 use Rattle.parsed_tree.specs.Tree.{ExprTree, StmtTree, assert_stmt}
 use Rattle.parsed_tree.specs.Views.{expr_view}
 use Rattle.c0_grammar.specs.Tokens.{sign_mark}
 use Rattle.c0_grammar.specs.Plan.{Plan, assert_stmt_plan, await}
-use Rattle.c0_parse.specs.Seen.{reading}
-use Rattle.c0_parse.proofs.Failing.{fails_as}
-use Rattle.c0_parse.proofs.Steps.{step_on}
+use Rattle.c0_cursor.specs.Seen.{reading}
+use Rattle.c0_cursor.specs.Laws.{fails_as, step_on}
 use Rattle.c0_lex.specs.declared.token.Symbol.TheVariants as mark
 use Rattle.c0_parse.proofs.statements.assert_behind.Goals as goal
 

@@ -1,3 +1,4 @@
+-- `condition_of`: what is left to show of its clauses.
 use Rattle.std.proofs.Common.{List, ℕ, ◌∙◌}
 use Rattle.gc0_base.specs.declared.place.Place.{Place}
 use Rattle.parsed_tree.specs.Tree.{ExprTree}
@@ -5,7 +6,7 @@ use Rattle.parsed_tree.specs.Views.{expr_view}
 use Rattle.c0_grammar.specs.Tokens.{sign_mark}
 use Rattle.c0_grammar.specs.Allowed.{code}
 use Rattle.c0_grammar.specs.Plan.{Plan, await, expr}
-use Rattle.c0_parse.proofs.Failing.{fails_as}
+use Rattle.c0_cursor.specs.Laws.{fails_as}
 use Rattle.c0_lex.specs.declared.token.Symbol.TheVariants as mark
 use Rattle.c0_parse.proofs.statements.condition_of.Goals as goal
 

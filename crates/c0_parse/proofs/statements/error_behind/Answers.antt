@@ -1,12 +1,12 @@
+-- `error_behind`: what is left to show of its clauses.
 use Rattle.std.proofs.Common.{ap, arith, sym, ℕ, ◌+◌, ◌∙◌}
 use Rattle.gc0_base.specs.declared.place.Place.{Place}
 use Rattle.parsed_tree.specs.declared.expressions.Text.{Text}
 use Rattle.parsed_tree.specs.Tree.{StmtTree, error_stmt}
 use Rattle.c0_grammar.specs.Tokens.{sign_mark}
 use Rattle.c0_grammar.specs.Plan.{Plan, await, error_plan, text}
-use Rattle.c0_parse.specs.Seen.{reading}
-use Rattle.c0_parse.proofs.Failing.{fails_as}
-use Rattle.c0_parse.proofs.Steps.{step_on}
+use Rattle.c0_cursor.specs.Seen.{reading}
+use Rattle.c0_cursor.specs.Laws.{fails_as, step_on}
 use Rattle.c0_lex.specs.declared.token.Symbol.TheVariants as mark
 use Rattle.c0_parse.proofs.statements.error_behind.Goals as goal
 

@@ -1,3 +1,4 @@
+-- `return_behind`: what is left to show of its clauses.
 use Rattle.std.proofs.Common.{List, None, Some, ap, arith, false, rules, sym, true, ℕ, ◌+◌, ◌∙◌, ◌≡◌}
 use Rattle.gc0_base.specs.declared.place.Place.{Place}
 use Rattle.parsed_tree.specs.Tree.{ExprTree, StmtTree, return_stmt}
@@ -5,9 +6,8 @@ use Rattle.parsed_tree.specs.Views.{expr_view}
 use Rattle.c0_grammar.specs.Tokens.{sign_mark}
 use Rattle.c0_grammar.specs.Allowed.{code}
 use Rattle.c0_grammar.specs.Plan.{Plan, await, expr, return_plan}
-use Rattle.c0_parse.specs.Seen.{reading, starts}
-use Rattle.c0_parse.proofs.Failing.{fails_as}
-use Rattle.c0_parse.proofs.Steps.{not_first, peek_await, step_on}
+use Rattle.c0_cursor.specs.Seen.{reading, starts}
+use Rattle.c0_cursor.specs.Laws.{fails_as, not_first, peek_await, step_on}
 use Rattle.c0_lex.specs.declared.token.Symbol.TheVariants as mark
 use Rattle.c0_parse.proofs.statements.return_behind.Goals as goal
 

@@ -1,0 +1,3 @@
+-- The lemmas.
+mod NameSets
+mod Stars

@@ -1,0 +1,3 @@
+-- The definitions that the contracts cite, and their laws.
+pub mod Seen
+pub mod Laws

@@ -1,0 +1,4 @@
+-- The lemmas.
+mod Steps
+mod Notes
+mod Simples

@@ -1,5 +1,0 @@
-use Rattle.std.proofs.Common.{length}
-use Rattle.c0_parse.proofs.expressions.+acc_end.Given as goal
-
-abbrev pub decreases-acc_end : goal.decreases-acc_end
-decreases-acc_end l = length l.tokens.now

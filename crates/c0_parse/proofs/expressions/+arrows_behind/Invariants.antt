@@ -1,5 +1,0 @@
-use Rattle.std.proofs.Common.{length}
-use Rattle.c0_parse.proofs.expressions.+arrows_behind.Given as goal
-
-abbrev pub decreases-arrows_behind : goal.decreases-arrows_behind
-decreases-arrows_behind l = length l.tokens.now
