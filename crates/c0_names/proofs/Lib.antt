@@ -1,3 +1,4 @@
+-- The lemmas.
 pub mod Indexing
 pub mod Folds
 pub mod Fronts

@@ -1,11 +1,14 @@
 -- The types of values, and what the operators take and give.
 -- Source: C0 Reference, "Types" and "Expressions".
 use Rattle.std.specs.Prelude.{ℕ, Bool, true, false, ◌&&◌, ◌||◌, eqb, nat_lt, List, [], ◌∷◌, Option, Some, None, is_some, if◌then◌else◌}
-use Rattle.std.specs.Str.{bytes_eq}
+use Rattle.std.specs.Option.{option_map, unwrap_or}
 use Rattle.parsed_tree.specs.declared.expressions.UnaryOperator.{UnaryOperator}
 use Rattle.parsed_tree.specs.declared.expressions.UnaryOperator.TheVariants as sign
 use Rattle.parsed_tree.specs.declared.expressions.Operator.{Operator}
 use Rattle.parsed_tree.specs.declared.expressions.Operator.TheVariants as op
+use Rattle.gc0_tree.specs.declared.LibraryCall.{LibraryCall}
+use Rattle.gc0_tree.specs.declared.LibraryCall.TheVariants.{PrintInt, PrintBool, Print, PrintLine, ReadInt, MoreInt}
+use Rattle.gc0_tree.specs.Calls.{library_named, takes_text}
 use Rattle.c0_names.specs.declared.types.BaseType.{BaseType}
 use Rattle.c0_names.specs.declared.types.BaseType.TheVariants.{Int, Bool as Truth, Struct}
 use Rattle.c0_names.specs.declared.types.ValueType.{ValueType}
@@ -146,34 +149,21 @@ choice_type c v w = if is_truth c then common v w else None
 abbrev pub takes_to : List ValueType → ValueType → Signature
 takes_to ps r = record { params = ps; result = r }
 
-abbrev pub name_print : List ℕ
-name_print = 112 ∷ 114 ∷ 105 ∷ 110 ∷ 116 ∷ []
-
-abbrev pub name_println : List ℕ
-name_println = 112 ∷ 114 ∷ 105 ∷ 110 ∷ 116 ∷ 108 ∷ 110 ∷ []
-
-abbrev pub name_printint : List ℕ
-name_printint = 112 ∷ 114 ∷ 105 ∷ 110 ∷ 116 ∷ 105 ∷ 110 ∷ 116 ∷ []
-
-abbrev pub name_printbool : List ℕ
-name_printbool = 112 ∷ 114 ∷ 105 ∷ 110 ∷ 116 ∷ 98 ∷ 111 ∷ 111 ∷ 108 ∷ []
-
-abbrev pub name_readint : List ℕ
-name_readint = 114 ∷ 101 ∷ 97 ∷ 100 ∷ 105 ∷ 110 ∷ 116 ∷ []
-
-abbrev pub name_moreint : List ℕ
-name_moreint = 109 ∷ 111 ∷ 114 ∷ 101 ∷ 105 ∷ 110 ∷ 116 ∷ []
-
-abbrev pub prints_text : List ℕ → Bool
-prints_text name = bytes_eq name name_print || bytes_eq name name_println
+-- what a library call takes and gives
+abbrev pub library_signature : LibraryCall → Signature
+library_signature PrintInt = takes_to (int ∷ []) Void
+library_signature PrintBool = takes_to (bool ∷ []) Void
+library_signature Print = takes_to (Text ∷ []) Void
+library_signature PrintLine = takes_to (Text ∷ []) Void
+library_signature ReadInt = takes_to [] int
+library_signature MoreInt = takes_to [] bool
 
 abbrev pub library : List ℕ → Option Signature
-library name =
-    if prints_text name then Some (takes_to (Text ∷ []) Void) else
-    if bytes_eq name name_printint then Some (takes_to (int ∷ []) Void) else
-    if bytes_eq name name_printbool then Some (takes_to (bool ∷ []) Void) else
-    if bytes_eq name name_readint then Some (takes_to [] int) else
-    if bytes_eq name name_moreint then Some (takes_to [] bool) else None
+library name = option_map library_signature (library_named name)
+
+-- the name of a call that takes a string
+abbrev pub prints_text : List ℕ → Bool
+prints_text name = unwrap_or (option_map takes_text (library_named name)) false
 
 abbrev pub or_else : Option Signature → Option Signature → Option Signature
 or_else None t = t

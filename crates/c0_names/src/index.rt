@@ -1,3 +1,5 @@
+//! Names in a row, with an index of the last of each.
+
 ghost use Rattle.std.specs.Prelude.{◌≡◌, [], ◌∷◌, ◌++◌, length, take, slice_get, OnOk};
 ghost use Rattle.std.specs.Option.{option_map};
 ghost use Rattle.c0_names.specs.Names.{last_place, front, names_with};

@@ -1,3 +1,5 @@
+//! The structs of a text in the order in which their names first stand.
+
 #![tactic(auto, using(crate::specs::Names::names_both))]
 
 ghost use Rattle.std.specs.Prelude.{◌≡◌, [], fold, OnOk, IfOk, map};
@@ -11,6 +13,7 @@ use gc0_base::Place;
 use parsed_tree::{
     Base, Expr, Field, Head, Item, Param, Parsed, PredicateText, ResultType, Simple, Stmt, TypeName,
 };
+use sqlite_items::Boxed;
 use std::alloc::{AllocError, Global};
 
 fn in_type<'a>(names: &mut Index<'a>, typed: &'a TypeName) -> Result<(), AllocError>
@@ -110,11 +113,11 @@ fn in_simple<'a>(names: &mut Index<'a>, simple: &'a Simple) -> Result<(), AllocE
     }
 }
 
-fn in_part<'a>(names: &mut Index<'a>, part: &'a Option<Simple>) -> Result<(), AllocError>
+fn in_part<'a>(names: &mut Index<'a>, part: &'a Option<Boxed<Simple>>) -> Result<(), AllocError>
     ensures { OnOk result (names.new ≡ fold names_with names.old (part_structs (option_map simple_view part.now))) }
 {
     match part {
-        Some(simple) => in_simple(names, simple),
+        Some(simple) => in_simple(names, simple.get()),
         None => Ok(()),
     }
 }

@@ -1,3 +1,5 @@
+//! The tables of a text: what the names of its items stand for.
+
 ghost use Rattle.std.specs.Prelude.{◌≡◌, [], map, length, fold, IfOk, OnOk, is_some, Some, None};
 ghost use Rattle.std.proofs.Math.ListN.{replicate};
 ghost use Rattle.std.specs.Option.{option_copied, option_map};

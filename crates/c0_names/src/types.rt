@@ -1,7 +1,10 @@
+//! The types of values, and what the operators take and give.
+
 ghost use Rattle.std.specs.Prelude.{◌≡◌, Some, None, if◌then◌else◌};
 ghost use Rattle.std.specs.Option.{option_map};
-ghost use Rattle.c0_names.specs.Types.{same_base, same_type, is_int, is_truth, is_void, is_pointer, struct_in, struct_behind, pointed, is_held, fits, common, unary_type, of_ints, of_truths, of_equals, binary_type, choice_type, prints_text, takes_to, library};
+ghost use Rattle.c0_names.specs.Types.{same_base, same_type, is_int, is_truth, is_void, is_pointer, struct_in, struct_behind, pointed, is_held, fits, common, unary_type, of_ints, of_truths, of_equals, binary_type, choice_type, prints_text, takes_to, library_signature, library};
 
+use gc0_tree::LibraryCall;
 use parsed_tree::{Operator, UnaryOperator};
 
 /// A type without its `*`.
@@ -151,7 +154,8 @@ impl ValueType {
     }
 }
 
-fn given_if(holds: bool, given: ValueType) -> Option<ValueType>
+/// A type, where this holds.
+pub fn given_if(holds: bool, given: ValueType) -> Option<ValueType>
     ensures { result ≡ (if holds then Some given else None) }
 {
     if holds { Some(given) } else { None }
@@ -227,24 +231,32 @@ pub fn choice_type(condition: ValueType, a: ValueType, b: ValueType) -> Option<V
 pub fn prints_text(name: &[u8]) -> bool
     ensures { result ≡ prints_text name.now }
 {
-    name == b"print".as_slice() || name == b"println".as_slice()
+    match LibraryCall::named(name) {
+        Some(call) => call.takes_text(),
+        None => false,
+    }
+}
+
+// What a library call takes, and what it gives.
+fn library_signature(call: LibraryCall) -> (&'static [ValueType], ValueType)
+    ensures { takes_to result.0.now result.1 ≡ library_signature call }
+{
+    match call {
+        LibraryCall::PrintInt => (&[INT], ValueType::Void),
+        LibraryCall::PrintBool => (&[BOOL], ValueType::Void),
+        LibraryCall::Print => (&[ValueType::Text], ValueType::Void),
+        LibraryCall::PrintLine => (&[ValueType::Text], ValueType::Void),
+        LibraryCall::ReadInt => (&[], INT),
+        LibraryCall::MoreInt => (&[], BOOL),
+    }
 }
 
 /// The types of the parameters and of the result of a library call.
 pub fn library(name: &[u8]) -> Option<(&'static [ValueType], ValueType)>
     ensures { option_map (λ p. takes_to p.0.now p.1) result ≡ library name.now }
 {
-    if prints_text(name) {
-        Some((&[ValueType::Text], ValueType::Void))
-    } else if name == b"printint".as_slice() {
-        Some((&[INT], ValueType::Void))
-    } else if name == b"printbool".as_slice() {
-        Some((&[BOOL], ValueType::Void))
-    } else if name == b"readint".as_slice() {
-        Some((&[], INT))
-    } else if name == b"moreint".as_slice() {
-        Some((&[], BOOL))
-    } else {
-        None
+    match LibraryCall::named(name) {
+        Some(call) => Some(library_signature(call)),
+        None => None,
     }
 }

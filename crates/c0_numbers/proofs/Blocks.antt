@@ -4,14 +4,15 @@ use Rattle.std.proofs.Math.ListN.{drop_of_length-le}
 use Rattle.gc0_base.specs.declared.place.Place.{Place}
 use Rattle.gc0_tree.specs.declared.Stmt.{Stmt}
 use Rattle.gc0_tree.specs.Views.{stmt_view, stmts_view, stmts_of}
-use Rattle.gc0_tree.specs.Tree as core
+use Rattle.gc0_tree.specs.Tree as gc0
 use Rattle.gc0_tree.specs.Tree.{Stmts, no_stmts, stmt_and, block_at}
 use Rattle.parsed_tree.specs.declared.statements.Stmt as read_stmt
 use Rattle.parsed_tree.specs.declared.statements.Note.{Note}
 use Rattle.parsed_tree.specs.Views as view
 use Rattle.c0_names.specs.declared.tables.Tables.{Tables}
-use Rattle.c0_numbers.specs.declared.frame.Frame.{Frame}
-use Rattle.c0_numbers.specs.Texts.{Texts, stmt_texts, stmts_texts}
+use Rattle.c0_value_numbers.specs.declared.frame.Frame.{Frame}
+use Rattle.c0_value_numbers.specs.Texts.{Texts}
+use Rattle.c0_numbers.specs.StatementTexts.{stmt_texts, stmts_texts}
 use Rattle.c0_numbers.specs.Statements.{note_form, notes_tree, alone, before, stmt_frame, stmts_frame, stmt_tree, stmts_tree}
 use Rattle.c0_numbers.specs.Rows.{stmts_before}
 

@@ -1,4 +1,4 @@
-pub mod Fronts
+-- The lemmas.
 pub mod Blocks
 pub mod Zips
 pub mod Parts

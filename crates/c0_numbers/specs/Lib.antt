@@ -1,7 +1,5 @@
-pub mod Values
-pub mod Texts
-pub mod Expressions
-pub mod Formulas
+-- The definitions.
+pub mod StatementTexts
 pub mod Statements
 pub mod Rows
 pub mod Targets

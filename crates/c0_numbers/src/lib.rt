@@ -1,16 +1,10 @@
-//! Numbers in place of names.
+//! Numbers in place of names: the resolved tree of a text of C0. Those of values are made in
+//! `c0_value_numbers`.
 #![tactic(auto)]
 
-mod expressions;
-mod formulas;
-mod frame;
 mod program;
 mod statements;
 mod targets;
-mod values;
 
-pub use expressions::Typed;
-pub use frame::Frame;
-pub use program::numbered;
+pub use program::{numbered, numbered_by};
 pub use targets::Target;
-pub use values::FieldPlace;

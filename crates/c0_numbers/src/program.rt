@@ -1,20 +1,22 @@
+//! The tree of a text with numbers in place of names.
+
 ghost use Rattle.std.specs.Prelude.{◌≡◌, [], ◌∷◌, ◌++◌, map, Option, Some, None, IfOk, OnOk};
 ghost use Rattle.gc0_base.specs.declared.place.Place.{Place};
-ghost use Rattle.gc0_tree.specs.Tree as core;
-ghost use Rattle.gc0_tree.specs.Views.{formula_view, struct_view, predicate_view, function_view, program_view};
+ghost use Rattle.gc0_tree.specs.Tree as gc0;
+ghost use Rattle.parsed_tree.specs.declared.items.Side.TheVariants.{Requires, Ensures};
+ghost use Rattle.gc0_tree.specs.Views.{stmts_view, formula_view, struct_view, predicate_view, function_view, program_view};
 ghost use Rattle.parsed_tree.specs.Views as read;
-ghost use Rattle.c0_names.specs.Tables.{no_types, tables_of};
-ghost use Rattle.c0_numbers.specs.Texts.{stmts_texts, item_texts, items_texts};
-ghost use Rattle.c0_numbers.specs.Formulas as formula_of;
+ghost use Rattle.c0_names.specs.Tables.{no_types, result_type, tables_of};
+ghost use Rattle.c0_numbers.specs.Statements.{stmts_frame, stmts_tree};
+ghost use Rattle.c0_numbers.specs.StatementTexts.{stmts_texts, item_texts, items_texts};
+ghost use Rattle.c0_value_numbers.specs.Formulas as formula_of;
 ghost use Rattle.c0_numbers.specs.Resolved.{named_shape, shapes_of, field_shapes, struct_tree, structs_tree, params_behind, params_of, predicate_tree, result_shape, function_tree, item_predicates, predicates_tree, item_functions, functions_tree, numbered_by, resolved};
 
-use crate::formulas::{joined, parts_of, side_contracts};
-use crate::frame::Frame;
 use crate::statements::statements;
-use crate::values::{number_in, shape_of, small};
 use c0_names::{Tables, TypedNames, ValueType, tables_of};
+use c0_value_numbers::{Frame, joined, number_in, parts_of, shape_of, side_contracts, small};
 use gc0_base::Place;
-use gc0_tree::{Formula, Function, Predicate, Program, Shape, Struct};
+use gc0_tree::{Formula, Function, Predicate, Program, Shape, Stmt, Struct};
 use parsed_tree::{Contract, Head, Item, Param, Parsed, PredicateText, ResultType, Side};
 use sqlite_items::Items;
 use std::alloc::{AllocError, Global};
@@ -179,6 +181,60 @@ fn side(
     joined(alloc, tables, frame, formulas.as_slice())
 }
 
+// The joined clauses of a contract.
+#[derive(Drop)]
+struct JoinedSides {
+    before: Formula,
+    after: Formula,
+}
+
+fn sides(
+    alloc: Global,
+    tables: &Tables,
+    frame: &Frame,
+    contracts: &[Contract],
+) -> Result<JoinedSides, AllocError>
+    ensures before { IfOk result (λ s. formula_view s.before ≡ formula_of.joined tables.now frame.now (formula_of.side_contracts Requires (map read.contract_view contracts.now))) }
+    ensures after { IfOk result (λ s. formula_view s.after ≡ formula_of.joined tables.now frame.now (formula_of.side_contracts Ensures (map read.contract_view contracts.now))) }
+{
+    let before = side(alloc, tables, frame, Side::Requires, contracts)?;
+    let after = side(alloc, tables, frame, Side::Ensures, contracts)?;
+    Ok(JoinedSides { before, after })
+}
+
+// The statements of a function, and all its locals.
+#[derive(Drop)]
+struct FunctionCode {
+    locals: Items<(Items<u8>, Shape)>,
+    body: Items<Stmt>,
+}
+
+fn code<'a>(
+    alloc: Global,
+    tables: &Tables,
+    frame: Frame<'a>,
+    texts: &mut Items<Items<u8>>,
+    body: &'a [parsed_tree::Stmt],
+) -> Result<FunctionCode, AllocError>
+    ensures locals { IfOk result (λ c. c.locals ≡ shapes_of (stmts_frame tables.now frame.entry (read.stmts_view body.now)).locals) }
+    ensures body { IfOk result (λ c. stmts_view c.body ≡ stmts_tree tables.now frame.entry texts.old (read.stmts_view body.now)) }
+    ensures texts { OnOk result (texts.new ≡ stmts_texts texts.old (read.stmts_view body.now)) }
+{
+    let mut frame = frame;
+    let body = statements(alloc, tables, &mut frame, texts, body)?;
+    let locals = shapes_of(alloc, &frame.locals)?;
+    Ok(FunctionCode { locals, body })
+}
+
+// What names stand for at the start of a function.
+fn start<'a>(alloc: Global, tables: &Tables, head: &'a Head) -> Result<Frame<'a>, AllocError>
+    ensures { IfOk result (λ f. f ≡ record { locals = params_of tables.now head.now.params; result = result_type tables.now head.now.result }) }
+{
+    let result = tables.result_type(&head.result)?;
+    let locals = parameters(alloc, tables, head.params.as_slice())?;
+    Ok(Frame { locals, result })
+}
+
 fn function(
     alloc: Global,
     tables: &Tables,
@@ -191,24 +247,22 @@ fn function(
     ensures tree { IfOk result (λ f. function_view f ≡ function_tree tables.now texts.old head.now (map read.contract_view contracts.now) (read.stmts_view body.now) close) }
     ensures texts { OnOk result (texts.new ≡ stmts_texts texts.old (read.stmts_view body.now)) }
 {
-    let params = head.params.as_slice();
-    let mut frame = Frame {
-        locals: parameters(alloc, tables, params)?,
-        result: tables.result_type(&head.result)?,
-    };
-    let before = side(alloc, tables, &frame, Side::Requires, contracts)?;
-    let after = side(alloc, tables, &frame, Side::Ensures, contracts)?;
-    let body = statements(alloc, tables, &mut frame, texts, body)?;
+    let params = small(head.params.len())?;
+    let result = result_shape(tables, &head.result)?;
+    let name = Items::from_slice(alloc, head.name.name.as_slice())?;
+    let frame = start(alloc, tables, head)?;
+    let sides = sides(alloc, tables, &frame, contracts)?;
+    let code = code(alloc, tables, frame, texts, body)?;
     Ok(Function {
-        name: Items::from_slice(alloc, head.name.name.as_slice())?,
+        name,
         place: head.name.place,
         close,
-        params: small(params.len())?,
-        locals: shapes_of(alloc, &frame.locals)?,
-        result: result_shape(tables, &head.result)?,
-        before,
-        after,
-        body,
+        params,
+        locals: code.locals,
+        result,
+        before: sides.before,
+        after: sides.after,
+        body: code.body,
     })
 }
 
@@ -255,18 +309,25 @@ fn all_functions(
     Ok(made)
 }
 
-// The tree of a text by its tables.
-fn numbered_by(alloc: Global, tables: &Tables, parsed: &Parsed) -> Result<Program, AllocError>
+/// The same as `numbered`, by tables that were made: those of the text.
+///
+/// # Errors
+///
+/// Where there is not memory enough, or more than 2^32 - 1 of what is numbered.
+pub fn numbered_by(alloc: Global, parsed: &Parsed, tables: &Tables) -> Result<Program, AllocError>
     ensures { IfOk result (λ q. program_view q ≡ numbered_by tables.now (read.program_view parsed.now)) }
 {
     let items = parsed.items.as_slice();
+    let main = small(number_in(&tables.functions.names, b"main".as_slice()))?;
+    let structs = structs(alloc, tables)?;
+    let predicates = all_predicates(alloc, tables, items)?;
     let mut texts = Items::new(alloc);
     let functions = all_functions(alloc, tables, &mut texts, items)?;
     Ok(Program {
-        structs: structs(alloc, tables)?,
-        predicates: all_predicates(alloc, tables, items)?,
+        structs,
+        predicates,
         functions,
-        main: small(number_in(&tables.functions.names, b"main".as_slice()))?,
+        main,
         texts,
     })
 }
@@ -284,5 +345,5 @@ pub fn numbered(alloc: Global, parsed: &Parsed) -> Result<Program, AllocError>
     ensures { IfOk result (λ q. program_view q ≡ resolved (read.program_view parsed.now)) }
 {
     let tables = tables_of(alloc, parsed)?;
-    numbered_by(alloc, &tables, parsed)
+    numbered_by(alloc, parsed, &tables)
 }

@@ -1,22 +1,22 @@
+//! Where a value is put.
+
 ghost use Rattle.std.specs.Prelude.{◌≡◌, Option, IfOk, OnOk};
 ghost use Rattle.gc0_base.specs.declared.place.Place.{Place};
 ghost use Rattle.gc0_tree.specs.declared.ExprOp.{ExprOp};
-ghost use Rattle.gc0_tree.specs.Tree as core;
+ghost use Rattle.gc0_tree.specs.Tree as gc0;
 ghost use Rattle.gc0_tree.specs.Views.{expr_view, stmt_view, stmt_form_view};
 ghost use Rattle.parsed_tree.specs.Tree.{spot_of};
 ghost use Rattle.parsed_tree.specs.Views as read;
-ghost use Rattle.c0_numbers.specs.Values.{number_in, accessed};
-ghost use Rattle.c0_numbers.specs.Texts.{expr_texts};
+ghost use Rattle.c0_value_numbers.specs.Values.{number_in, accessed};
+ghost use Rattle.c0_value_numbers.specs.Texts.{expr_texts};
 ghost use Rattle.c0_numbers.specs.Statements.{write_tree, put_tree};
 ghost use Rattle.c0_numbers.specs.Targets.{put_at};
 
-use crate::expressions::{Typed, expression};
-use crate::frame::Frame;
-use crate::values::{accessed, number_in, small};
 use c0_names::Tables;
+use c0_value_numbers::{Frame, Typed, access, expression, number_in, small};
 use gc0_base::Place;
 use gc0_tree::{Expr, ExprOp, Stmt, StmtForm};
-use sqlite_items::Items;
+use sqlite_items::{Boxed, Items};
 use std::alloc::{AllocError, Global};
 
 /// Where a value is put, with the place of its first token.
@@ -24,13 +24,13 @@ use std::alloc::{AllocError, Global};
 pub enum Target {
     Local(Place, u32),
     /// The place of the first token and that of the `->`, the pointer, the struct and the field.
-    Field(Place, Place, Expr, u32, u32),
+    Field(Place, Place, Boxed<Expr>, u32, u32),
     /// No target of the grammar.
     Other(Place),
 }
 
 fn local(frame: &Frame, first: Place, name: &[u8]) -> Result<Target, AllocError>
-    ensures { IfOk result (λ r. (o : Option ExprOp) (q : Place) (y : core.Tree) → put_at r o q y ≡ core.assign_at first (number_in frame.now.locals.names name.now) o q y) }
+    ensures { IfOk result (λ r. (o : Option ExprOp) (q : Place) (y : gc0.Tree) → put_at r o q y ≡ gc0.assign_at first (number_in frame.now.locals.names name.now) o q y) }
 {
     Ok(Target::Local(first, small(number_in(&frame.locals.names, name))?))
 }
@@ -42,21 +42,15 @@ fn field(
     base: Typed,
     name: &[u8],
 ) -> Result<Target, AllocError>
-    ensures { IfOk result (λ r. (o : Option ExprOp) (q : Place) (y : core.Tree) → put_at r o q y ≡ write_tree first arrow (expr_view base.tree) (accessed tables.now base.typed name.now) o q y) }
+    ensures { IfOk result (λ r. (o : Option ExprOp) (q : Place) (y : gc0.Tree) → put_at r o q y ≡ write_tree first arrow (expr_view base.tree) (accessed tables.now base.typed name.now) o q y) }
 {
-    let at = accessed(tables, base.typed, name);
-    Ok(Target::Field(
-        first,
-        arrow,
-        base.tree,
-        small(at.of_struct)?,
-        small(at.field)?,
-    ))
+    let (of_struct, field) = access(tables, base.typed, name)?;
+    Ok(Target::Field(first, arrow, base.tree, of_struct, field))
 }
 
 // The value of what is no target is left.
 fn left(_value: Typed, first: Place) -> Target
-    ensures { (o : Option ExprOp) (q : Place) (y : core.Tree) → put_at result o q y ≡ core.plain_at first y }
+    ensures { (o : Option ExprOp) (q : Place) (y : gc0.Tree) → put_at result o q y ≡ gc0.plain_at first y }
 {
     Target::Other(first)
 }
@@ -68,7 +62,7 @@ fn other(
     texts: &mut Items<Items<u8>>,
     e: &parsed_tree::Expr,
 ) -> Result<Target, AllocError>
-    ensures tree { IfOk result (λ r. (o : Option ExprOp) (q : Place) (y : core.Tree) → put_at r o q y ≡ core.plain_at (spot_of (read.expr_view e.now)).first y) }
+    ensures tree { IfOk result (λ r. (o : Option ExprOp) (q : Place) (y : gc0.Tree) → put_at r o q y ≡ gc0.plain_at (spot_of (read.expr_view e.now)).first y) }
     ensures texts { OnOk result (texts.new ≡ expr_texts texts.old (read.expr_view e.now)) }
 {
     let first = e.spot().first;
@@ -84,7 +78,7 @@ pub fn target_at(
     texts: &mut Items<Items<u8>>,
     e: &parsed_tree::Expr,
 ) -> Result<Target, AllocError>
-    ensures tree { IfOk result (λ r. (o : Option ExprOp) (q : Place) (y : core.Tree) → put_at r o q y ≡ put_tree tables.now frame.now texts.old (read.expr_view e.now) o q y) }
+    ensures tree { IfOk result (λ r. (o : Option ExprOp) (q : Place) (y : gc0.Tree) → put_at r o q y ≡ put_tree tables.now frame.now texts.old (read.expr_view e.now) o q y) }
     ensures texts { OnOk result (texts.new ≡ expr_texts texts.old (read.expr_view e.now)) }
 {
     match e {
@@ -120,7 +114,7 @@ pub fn put(target: Target, op: Option<ExprOp>, op_place: Place, value: Expr) -> 
         Target::Field(first, arrow, base, of_struct, field) => stands(
             first,
             StmtForm::Write {
-                base,
+                base: base.into_inner(),
                 of_struct,
                 field,
                 arrow,

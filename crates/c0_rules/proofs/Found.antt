@@ -1,7 +1,7 @@
 -- The least violation of some, or of others where there is none.
 use Rattle.std.proofs.Common.{◌≡◌, List, [], ◌∷◌, Option, Some, None, refl}
-use Rattle.c0_rules.specs.declared.violation.Violation.{Violation}
-use Rattle.c0_rules.specs.Violations.{least_of}
+use Rattle.c0_value_rules.specs.declared.violation.Violation.{Violation}
+use Rattle.c0_value_rules.specs.Violations.{least_of}
 use Rattle.c0_rules.specs.Rules.{or_others}
 use Rattle.c0_rules.proofs.Least.{stays}
 

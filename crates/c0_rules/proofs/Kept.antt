@@ -3,10 +3,11 @@ use Rattle.std.proofs.Common.{◌≡◌, ℕ, Bool, List, [], ◌∷◌, ◌++�
 use Rattle.std.proofs.Math.Seq.{take-append_seam}
 use Rattle.parsed_tree.specs.Tree.{ExprTree, number, truth, null, local, outcome, unary, binary, choose, arrow, call, call_text, alloc, acc, SimpleTree, declare, assign, stepped, plain, StmtTree, simple_stmt, block_stmt, if_stmt, while_stmt, for_stmt, return_stmt, assert_stmt, error_stmt, notes_stmt, StmtTrees, no_stmts, stmt_and}
 use Rattle.c0_names.specs.declared.tables.Tables.{Tables}
-use Rattle.c0_rules.specs.declared.scope.Standing.{Standing}
-use Rattle.c0_rules.specs.declared.scope.Flow.{Flow}
-use Rattle.c0_rules.specs.declared.scope.Scope.{Scope}
-use Rattle.c0_rules.specs.Scopes.{closed, target_behind, simple_behind, part_behind, stmt_behind, stmts_behind}
+use Rattle.c0_value_rules.specs.declared.scope.Standing.{Standing}
+use Rattle.c0_value_rules.specs.declared.scope.Flow.{Flow}
+use Rattle.c0_value_rules.specs.declared.scope.Scope.{Scope}
+use Rattle.c0_value_rules.specs.Scopes.{closed}
+use Rattle.c0_rules.specs.Behind.{target_behind, simple_behind, part_behind, stmt_behind, stmts_behind}
 
 -- the locals of one scope, and others behind them
 pub record Extends (outer scope : Scope) : Type 0 where

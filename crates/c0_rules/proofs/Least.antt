@@ -1,11 +1,7 @@
--- The least violation of two parts, and of none.
+-- One that was found stays, and where none is found there is none.
 use Rattle.std.proofs.Common.{◌≡◌, Bool, true, false, cond, List, [], ◌∷◌, ◌++◌, fold, Option, Some, None, refl}
-use Rattle.c0_rules.specs.declared.violation.Violation.{Violation}
-use Rattle.c0_rules.specs.Violations.{comes_before, earlier, least_of}
-
-pub least_both : (least : Option Violation) (a b : List Violation) → fold earlier least (a ++ b) ≡ fold earlier (fold earlier least a) b
-least_both least [] b = refl
-least_both least (v ∷ a) b = least_both (earlier least v) a b
+use Rattle.c0_value_rules.specs.declared.violation.Violation.{Violation}
+use Rattle.c0_value_rules.specs.Violations.{comes_before, earlier, least_of}
 
 -- one that was found stays
 pub stays : (w : Violation) (vs : List Violation) → None ≡ fold earlier (Some w) vs → ⊥

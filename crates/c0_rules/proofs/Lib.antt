@@ -1,5 +1,6 @@
+-- The lemmas.
 pub mod Least
 pub mod Kept
 pub mod Found
-pub mod Counts
 pub mod Likeness
+pub mod Aliases

@@ -13,8 +13,8 @@ use Rattle.parsed_tree.specs.declared.items.Head.{Head}
 use Rattle.parsed_tree.specs.declared.items.ResultType.TheVariants as result
 use Rattle.parsed_tree.specs.declared.items.Side.TheVariants as side
 use Rattle.parsed_tree.specs.Tree.{ExprTree, number, truth, null, local, binary, arrow, call, ExprTrees, no_exprs, expr_and, SimpleTree, declare, assign, stepped, plain, StmtTree, simple_stmt, if_stmt, while_stmt, block_stmt, return_stmt, StmtTrees, no_stmts, stmt_and, ContractTree, ItemTree, struct_item, function_item, ProgramTree}
-use Rattle.c0_rules.specs.declared.violation.Rule.TheVariants as rule
-use Rattle.c0_rules.specs.Violations.{violation, least_of}
+use Rattle.c0_value_rules.specs.declared.violation.Rule.TheVariants as rule
+use Rattle.c0_value_rules.specs.Violations.{violation, least_of}
 use Rattle.c0_rules.specs.Rules.{violations}
 
 abbrev at : ℕ → ℕ → Place

@@ -1,7 +1,5 @@
-pub mod Violations
-pub mod Scopes
-pub mod Expressions
-pub mod Formulas
+-- The definitions.
+pub mod Behind
 pub mod Statements
 pub mod Rules
 pub mod Examples

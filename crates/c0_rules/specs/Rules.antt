@@ -12,20 +12,21 @@ use Rattle.parsed_tree.specs.declared.items.ResultType.TheVariants as result
 use Rattle.parsed_tree.specs.declared.items.Head.{Head}
 use Rattle.parsed_tree.specs.Tree.{ExprTree, number, truth, null, local, outcome, unary, binary, choose, arrow, call, call_text, alloc, acc, ExprTrees, no_exprs, expr_and, StmtTrees, ClauseTree, ContractTree, PredicateTree, ItemTree, struct_name, struct_item, typedef_item, prototype_item, function_item, predicates_item, ProgramTree}
 use Rattle.c0_names.specs.declared.types.ValueType.{ValueType}
-use Rattle.c0_rules.specs.declared.violation.Rule.TheVariants as rule
-use Rattle.c0_rules.specs.declared.violation.Violation.{Violation}
+use Rattle.c0_value_rules.specs.declared.violation.Rule.TheVariants as rule
+use Rattle.c0_value_rules.specs.declared.violation.Violation.{Violation}
 use Rattle.c0_names.specs.declared.tables.TypedNames.{TypedNames}
 use Rattle.c0_names.specs.declared.tables.Signature.{Signature}
 use Rattle.c0_names.specs.declared.tables.Tables.{Tables}
-use Rattle.c0_rules.specs.declared.scope.Standing.{Standing}
-use Rattle.c0_rules.specs.declared.scope.Flow.{Flow}
-use Rattle.c0_rules.specs.declared.scope.Scope.{Scope}
-use Rattle.c0_rules.specs.Violations.{violation, unless}
+use Rattle.c0_value_rules.specs.declared.scope.Standing.{Standing}
+use Rattle.c0_value_rules.specs.declared.scope.Flow.{Flow}
+use Rattle.c0_value_rules.specs.declared.scope.Scope.{Scope}
+use Rattle.c0_value_rules.specs.Violations.{violation, unless}
 use Rattle.c0_names.specs.Names.{last_place, names_with}
 use Rattle.c0_names.specs.Tables.{signature_in, fields_of, value_type, result_type, head_signature, with_item, with_alias, with_predicate, with_first_type, no_types, struct_number, struct_names, tables_above, tables_of}
 use Rattle.c0_names.specs.Types.{int, same_type, is_void, library}
-use Rattle.c0_rules.specs.Scopes.{no_scope, scope_with, stmts_behind}
-use Rattle.c0_rules.specs.Formulas.{formula_violations, parts_violations}
+use Rattle.c0_value_rules.specs.Scopes.{no_scope, scope_with}
+use Rattle.c0_rules.specs.Behind.{stmts_behind}
+use Rattle.c0_value_rules.specs.Formulas.{formula_violations, parts_violations}
 use Rattle.c0_rules.specs.Statements.{held_violations, declared_violations, stmts_violations}
 
 -- ---- heads and contracts
@@ -179,6 +180,10 @@ is_main (Some s) = same_type s.result int && eqb (length s.params) 0
 abbrev pub or_others : List Violation → List Violation → List Violation
 or_others [] ws = ws
 or_others (v ∷ vs) ws = v ∷ vs
+
+-- tables without their typedefs
+abbrev pub unaliased : Tables → Tables
+unaliased t = record t { aliases = no_types }
 
 -- the tables of a text, without its typedefs
 abbrev pub tables_before : ProgramTree → Tables

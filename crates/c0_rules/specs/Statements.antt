@@ -6,18 +6,19 @@ use Rattle.parsed_tree.specs.declared.expressions.TypeName.{TypeName}
 use Rattle.parsed_tree.specs.declared.expressions.Named.{Named}
 use Rattle.parsed_tree.specs.Tree.{ExprTree, local, spot_of, SimpleTree, declare, assign, stepped, plain, StmtTree, simple_stmt, block_stmt, if_stmt, while_stmt, for_stmt, return_stmt, assert_stmt, error_stmt, notes_stmt, StmtTrees, no_stmts, stmt_and}
 use Rattle.c0_names.specs.declared.types.ValueType.{ValueType}
-use Rattle.c0_rules.specs.declared.violation.Rule.TheVariants as rule
-use Rattle.c0_rules.specs.declared.violation.Violation.{Violation}
+use Rattle.c0_value_rules.specs.declared.violation.Rule.TheVariants as rule
+use Rattle.c0_value_rules.specs.declared.violation.Violation.{Violation}
 use Rattle.c0_names.specs.declared.tables.Tables.{Tables}
-use Rattle.c0_rules.specs.declared.scope.Standing.{Standing}
-use Rattle.c0_rules.specs.declared.scope.Scope.{Scope}
-use Rattle.c0_rules.specs.Violations.{violation, unless}
+use Rattle.c0_value_rules.specs.declared.scope.Standing.{Standing}
+use Rattle.c0_value_rules.specs.declared.scope.Scope.{Scope}
+use Rattle.c0_value_rules.specs.Violations.{violation, unless}
 use Rattle.c0_names.specs.Names.{last_place}
 use Rattle.c0_names.specs.Tables.{value_type}
 use Rattle.c0_names.specs.Types.{int, bool, is_int, is_void, is_held, fits}
-use Rattle.c0_rules.specs.Scopes.{standing_of, held_type, read_type, closed, part_behind, stmt_behind}
-use Rattle.c0_rules.specs.Expressions.{type_of, local_violations, due_violations, expr_violations, value_violations}
-use Rattle.c0_rules.specs.Formulas.{notes_violations, invariants_violations}
+use Rattle.c0_value_rules.specs.Scopes.{standing_of, held_type, read_type, closed}
+use Rattle.c0_rules.specs.Behind.{part_behind, stmt_behind}
+use Rattle.c0_value_rules.specs.Expressions.{type_here, local_violations, due_violations, expr_violations, value_violations}
+use Rattle.c0_value_rules.specs.Formulas.{notes_violations, invariants_violations}
 
 -- ---- statements
 -- a local, a field, a parameter and a result hold an int, a truth or a pointer to a struct: at the first token of the type
@@ -30,7 +31,7 @@ declared_violations scope n = unless (not (is_some (last_place scope.names n.nam
 
 abbrev pub right_violations : Tables → Scope → (due : ValueType) → Option (Place × ExprTree) → List Violation
 right_violations t scope due None = []
-right_violations t scope due (Some v) = expr_violations t scope None v.1 ++ due_violations v.0 due (type_of t scope None v.1)
+right_violations t scope due (Some v) = expr_violations t scope None v.1 ++ due_violations v.0 due (type_here t scope None v.1)
 
 -- an assigned name is that of a local, and of no parameter that `ensures` names; `op=`, `++` and `--` read it too
 abbrev pub standing_violations : Place → Option Standing → List Violation
@@ -49,7 +50,7 @@ local_target_type scope reads name = if reads then read_type scope name else hel
 
 abbrev pub target_type : Tables → Scope → (reads : Bool) → ExprTree → Option ValueType
 target_type t scope reads (local s n) = local_target_type scope reads n
-target_type t scope reads e = type_of t scope None e
+target_type t scope reads e = type_here t scope None e
 
 -- `=` takes a value of the target's type, and the others two ints: at that operator
 abbrev pub suits : (reads : Bool) → ValueType → ValueType → Bool
@@ -62,7 +63,7 @@ assigned_violations at reads (Some due) (Some v) = unless (suits reads due v) ru
 
 abbrev pub simple_violations : Tables → Scope → SimpleTree → List Violation
 simple_violations t scope (declare n name v) = held_violations t n ++ (declared_violations scope name ++ right_violations t scope (value_type t n) v)
-simple_violations t scope (assign x q o y) = target_violations t scope (is_some o) x ++ (expr_violations t scope None y ++ assigned_violations q (is_some o) (target_type t scope (is_some o) x) (type_of t scope None y))
+simple_violations t scope (assign x q o y) = target_violations t scope (is_some o) x ++ (expr_violations t scope None y ++ assigned_violations q (is_some o) (target_type t scope (is_some o) x) (type_here t scope None y))
 simple_violations t scope (stepped x q o) = target_violations t scope true x ++ due_violations q int (target_type t scope true x)
 simple_violations t scope (plain e) = expr_violations t scope None e
 
@@ -77,7 +78,7 @@ returned_violations at first r (Some v) = if is_void r then (violation rule.Wron
 
 abbrev pub return_violations : Tables → Scope → Place → (r : ValueType) → Option ExprTree → List Violation
 return_violations t scope at r None = unless (is_void r) rule.WrongType at
-return_violations t scope at r (Some e) = expr_violations t scope None e ++ returned_violations at (spot_of e).first r (type_of t scope None e)
+return_violations t scope at r (Some e) = expr_violations t scope None e ++ returned_violations at (spot_of e).first r (type_here t scope None e)
 
 abbrev mutual
   -- the statements of a function with the result `r`

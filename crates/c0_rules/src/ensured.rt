@@ -1,3 +1,5 @@
+//! The locals that the `ensures` of a contract name.
+
 #![tactic(auto, using(c0_names::specs::Names::names_both))]
 
 ghost use Rattle.std.specs.Prelude.{◌≡◌, [], fold, map, OnOk, IfOk};

@@ -1,27 +1,26 @@
-#![tactic(auto, using(crate::proofs::Least::least_both))]
+//! The violations in the items of a text.
+
+#![tactic(auto, using(c0_value_rules::specs::Least::least_both))]
 
 ghost use Rattle.std.specs.Prelude.{◌≡◌, ◌++◌, [], fold, map, length, IfOk, OnOk, Some, None, MatchOption, not, is_some};
 ghost use Rattle.std.specs.Option.{option_map, option_copied};
 ghost use Rattle.parsed_tree.specs.Views.{expr_view, exprs_view, stmts_view, clause_view, contract_view, predicate_view, item_view, program_view};
-ghost use Rattle.c0_rules.specs.declared.violation.Rule.TheVariants.{Twice, WrongType, NoMain};
-ghost use Rattle.c0_rules.specs.Violations.{earlier, least_of, unless};
+ghost use Rattle.c0_value_rules.specs.declared.violation.Rule.TheVariants.{Twice, WrongType, NoMain};
+ghost use Rattle.c0_value_rules.specs.Violations.{earlier, least_of, unless};
 ghost use Rattle.c0_names.specs.Names.{names_with, last_place};
 ghost use Rattle.c0_names.specs.Tables.{struct_number, fields_of, value_type, result_type, head_signature, signature_in, with_item, with_predicate, no_types, fields_behind, tables_above, tables_of, struct_names};
 ghost use Rattle.c0_names.specs.Types.{is_void, library, same_type};
-ghost use Rattle.c0_rules.specs.Scopes.{no_scope};
+ghost use Rattle.c0_value_rules.specs.Scopes.{no_scope};
 ghost use Rattle.c0_rules.specs.Statements.{held_violations, declared_violations};
-ghost use Rattle.c0_rules.specs.Rules.{param_behind, params_scope, params_violations, result_violations, head_violations, outcome_in, sides_violations, contract_violations, end_violations, function_violations, library_violations, second_violations, same_types, is_like, likeness_violations, fields_violations, predicate_violations, predicates_violations, item_violations, items_violations, tables_before, main_name, start, is_main, violations, ensured};
+ghost use Rattle.c0_rules.specs.Rules.{param_behind, params_scope, params_violations, result_violations, head_violations, outcome_in, sides_violations, contract_violations, end_violations, function_violations, library_violations, second_violations, same_types, is_like, likeness_violations, fields_violations, predicate_violations, predicates_violations, item_violations, items_violations, unaliased, tables_before, main_name, start, is_main, violations, ensured};
 
 use crate::ensured::ensured;
-use crate::expressions::require;
-use crate::formulas::{formula, parts};
-use crate::scope::{Flow, Scope, Standing};
 use crate::statements::{declared, held, statements};
-use crate::violation::{Rule, Violation, report_unless};
 use c0_names::{
     Callables, INT, Index, Signature, Tables, TypedNames, ValueType, library, struct_names,
     tables_of,
 };
+use c0_value_rules::{Flow, Rule, Scope, Standing, Violation, formula, parts, report_unless};
 use gc0_base::Place;
 use parsed_tree::{
     Clause, Contract, Field, Head, Item, Named, Param, Parsed, PredicateText, ResultType, Side,
@@ -456,14 +455,16 @@ fn item<'a>(
     }
 }
 
-// The violation of all items that comes first.
+// The violation of all items that comes first. Their typedefs come into the tables.
+#[tactic(auto, using(crate::proofs::Aliases::rest_kept))]
 fn in_items<'a>(
     alloc: Global,
     tables: &mut Tables<'a>,
     above: &mut Tables<'a>,
     items: &'a [Item],
 ) -> Result<Option<Violation>, AllocError>
-    ensures { IfOk result (λ least. least ≡ least_of (items_violations tables.old above.old (map item_view items.now))) }
+    ensures least { IfOk result (λ least. least ≡ least_of (items_violations tables.old above.old (map item_view items.now))) }
+    ensures rest { IfOk result (λ least. unaliased tables.new ≡ unaliased tables.old) }
 {
     let mut least = None;
     for part in items {
@@ -471,28 +472,6 @@ fn in_items<'a>(
         tables.add_alias(part)?;
     }
     Ok(least)
-}
-
-// The tables without their typedefs.
-fn unaliased<'a>(alloc: Global, tables: Tables<'a>) -> Tables<'a>
-    ensures { result ≡ record tables.entry { aliases = no_types } }
-{
-    let Tables {
-        structs,
-        fields,
-        aliases: _,
-        prototypes,
-        functions,
-        predicates,
-    } = tables;
-    Tables {
-        structs,
-        fields,
-        aliases: TypedNames::new(alloc),
-        prototypes,
-        functions,
-        predicates,
-    }
 }
 
 // Whether there is `int main()`.
@@ -530,7 +509,8 @@ fn in_items_below<'a>(
     above: Tables<'a>,
     items: &'a [Item],
 ) -> Result<Option<Violation>, AllocError>
-    ensures { IfOk result (λ least. least ≡ least_of (items_violations tables.old above.entry (map item_view items.now))) }
+    ensures least { IfOk result (λ least. least ≡ least_of (items_violations tables.old above.entry (map item_view items.now))) }
+    ensures rest { IfOk result (λ least. unaliased tables.new ≡ unaliased tables.old) }
 {
     let mut above = above;
     in_items(alloc, tables, &mut above, items)
@@ -542,33 +522,53 @@ fn in_all_items<'a>(
     tables: &mut Tables<'a>,
     parsed: &'a Parsed,
 ) -> Result<Option<Violation>, AllocError>
-    ensures { IfOk result (λ least. least ≡ least_of (items_violations tables.old (tables_above (struct_names (program_view parsed.now))) (map item_view parsed.now.items))) }
+    ensures least { IfOk result (λ least. least ≡ least_of (items_violations tables.old (tables_above (struct_names (program_view parsed.now))) (map item_view parsed.now.items))) }
+    ensures rest { IfOk result (λ least. unaliased tables.new ≡ unaliased tables.old) }
 {
     let above = tables_above(alloc, parsed)?;
     in_items_below(alloc, tables, above, parsed.items.as_slice())
 }
 
-// The same by the tables of the text.
+// The same by the tables of the text. Its typedefs are taken out, and come back behind the items.
+#[tactic(auto, using(crate::proofs::Aliases::back))]
 fn in_text<'a>(
     alloc: Global,
-    tables: Tables<'a>,
+    tables: &mut Tables<'a>,
     parsed: &'a Parsed,
 ) -> Result<Option<Violation>, AllocError>
-    ensures { IfOk result (λ least. least ≡ least_of (items_violations (record tables.entry { aliases = no_types }) (tables_above (struct_names (program_view parsed.now))) (map item_view parsed.now.items))) }
+    ensures least { IfOk result (λ least. least ≡ least_of (items_violations (unaliased tables.old) (tables_above (struct_names (program_view parsed.now))) (map item_view parsed.now.items))) }
+    ensures tables { IfOk result (λ least. tables.new ≡ tables.old) }
 {
-    let mut tables = unaliased(alloc, tables);
-    in_all_items(alloc, &mut tables, parsed)
+    let aliases = std::mem::replace(&mut tables.aliases, TypedNames::new(alloc));
+    let least = in_all_items(alloc, tables, parsed)?;
+    let _ = std::mem::replace(&mut tables.aliases, aliases);
+    Ok(least)
 }
 
-// The violation of all items that comes first, and whether there is `int main()`.
-fn found_in(alloc: Global, parsed: &Parsed) -> Result<(Option<Violation>, bool), AllocError>
-    ensures least { IfOk result (λ found. found.0 ≡ least_of (items_violations (tables_before (program_view parsed.now)) (tables_above (struct_names (program_view parsed.now))) (map item_view parsed.now.items))) }
-    ensures main { IfOk result (λ found. found.1 ≡ is_main (signature_in (tables_of (program_view parsed.now)).functions main_name)) }
+/// The same as `least_violation`, by the tables of the text. They are as they were behind it.
+///
+/// What stands above an item is gathered in tables of its own, as the text goes on: the rules on
+/// second definitions compare each item with them.
+///
+/// # Errors
+///
+/// Where there is not memory enough.
+#[tactic(auto, using(crate::proofs::Found::found_among, crate::proofs::Found::found_others, crate::proofs::Least::none_found))]
+pub fn least_violation_by<'a>(
+    alloc: Global,
+    parsed: &'a Parsed,
+    tables: &mut Tables<'a>,
+) -> Result<Option<Violation>, AllocError>
+    requires { tables.old ≡ tables_of (program_view parsed.now) }
+    ensures least { IfOk result (λ least. least ≡ least_of (violations (program_view parsed.now))) }
+    ensures none { IfOk result (λ least. MatchOption least (violations (program_view parsed.now) ≡ []) (λ v. least_of (violations (program_view parsed.now)) ≡ Some v)) }
+    ensures tables { IfOk result (λ least. tables.new ≡ tables.old) }
 {
-    let tables = tables_of(alloc, parsed)?;
-    let main = has_main(&tables);
-    let least = in_text(alloc, tables, parsed)?;
-    Ok((least, main))
+    let main = has_main(tables);
+    match in_text(alloc, tables, parsed)? {
+        Some(least) => Ok(Some(least)),
+        None => Ok(missing_main(main)),
+    }
 }
 
 /// The violation of the typing rules that comes first in a text, or none. At one place the rules
@@ -579,14 +579,10 @@ fn found_in(alloc: Global, parsed: &Parsed) -> Result<(Option<Violation>, bool),
 /// # Errors
 ///
 /// Where there is not memory enough.
-#[tactic(auto, using(crate::proofs::Found::found_among, crate::proofs::Found::found_others, crate::proofs::Least::none_found))]
 pub fn least_violation(alloc: Global, parsed: &Parsed) -> Result<Option<Violation>, AllocError>
     ensures least { IfOk result (λ least. least ≡ least_of (violations (program_view parsed.now))) }
     ensures none { IfOk result (λ least. MatchOption least (violations (program_view parsed.now) ≡ []) (λ v. least_of (violations (program_view parsed.now)) ≡ Some v)) }
 {
-    let (least, main) = found_in(alloc, parsed)?;
-    match least {
-        Some(least) => Ok(Some(least)),
-        None => Ok(missing_main(main)),
-    }
+    let mut tables = tables_of(alloc, parsed)?;
+    least_violation_by(alloc, parsed, &mut tables)
 }

@@ -1,15 +1,10 @@
-//! Resolves the names of a text of C0 and checks its types: the rules as definitions, and the
-//! violation of them that comes first in the text.
+//! The typing rules of a text of C0: its statements, contracts and items, and the violation of
+//! them that comes first in the text. Those of values stand in `c0_value_rules`.
 #![tactic(auto)]
 
 mod ensured;
-mod expressions;
-mod formulas;
 mod items;
-mod scope;
 mod statements;
-mod violation;
 
-pub use items::least_violation;
-pub use scope::{Depth, Flow, Scope, Standing};
-pub use violation::{Rule, TypeFault, Violation, fault_at};
+pub use c0_value_rules::{Rule, TypeFault, Violation, fault_at};
+pub use items::{least_violation, least_violation_by};

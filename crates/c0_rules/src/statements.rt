@@ -1,24 +1,27 @@
-#![tactic(auto, using(crate::proofs::Least::least_both))]
+//! The violations in statements.
+
+#![tactic(auto, using(c0_value_rules::specs::Least::least_both))]
 
 ghost use Rattle.std.specs.Prelude.{◌≡◌, ◌++◌, fold, map, not, is_some, Some, None, IfOk, OnOk, if◌then◌else◌, [], true, false};
 ghost use Rattle.std.specs.Option.{option_map};
 ghost use Rattle.parsed_tree.specs.Tree.{spot_of};
 ghost use Rattle.parsed_tree.specs.Views.{expr_view, value_view, simple_view, invariants_view, stmt_view, stmts_view, stmts_in};
-ghost use Rattle.c0_rules.specs.declared.violation.Rule.TheVariants.{Twice, WrongType};
-ghost use Rattle.c0_rules.specs.Violations.{earlier, unless};
+ghost use Rattle.c0_value_rules.specs.declared.violation.Rule.TheVariants.{Twice, WrongType};
+ghost use Rattle.c0_value_rules.specs.Violations.{earlier, unless};
 ghost use Rattle.c0_names.specs.Names.{last_place};
 ghost use Rattle.c0_names.specs.Tables.{value_type};
 ghost use Rattle.c0_names.specs.Types.{bool, is_int, is_void, fits};
-ghost use Rattle.c0_rules.specs.Scopes.{standing_of, held_type, read_type, scope_with, closed, ended, joined, target_behind, simple_behind, part_behind, stmt_behind, stmts_behind};
-ghost use Rattle.c0_rules.specs.Expressions.{type_of, local_violations, value_violations};
+ghost use Rattle.c0_value_rules.specs.Scopes.{standing_of, held_type, read_type, scope_with, closed, ended, joined};
+ghost use Rattle.c0_rules.specs.Behind.{target_behind, simple_behind, part_behind, stmt_behind, stmts_behind};
+ghost use Rattle.c0_value_rules.specs.Expressions.{type_here, local_violations, value_violations};
 ghost use Rattle.c0_rules.specs.Statements.{held_violations, declared_violations, right_violations, standing_violations, local_target, target_violations, local_target_type, target_type, suits, assigned_violations, simple_violations, part_violations, returned_violations, return_violations, stmt_violations, stmts_violations};
-ghost use Rattle.c0_rules.specs.Formulas.{invariants_violations};
+ghost use Rattle.c0_value_rules.specs.Formulas.{invariants_violations};
 
-use crate::expressions::{expression, local, require, value};
-use crate::formulas::{invariants, notes};
-use crate::scope::{Flow, Scope, Standing, joined};
-use crate::violation::{Rule, Violation, report, report_unless};
 use c0_names::{BOOL, INT, Tables, ValueType};
+use c0_value_rules::{
+    Flow, Rule, Scope, Standing, Violation, expression, invariants, joined, local, notes, report,
+    report_unless, require, value,
+};
 use gc0_base::Place;
 use parsed_tree::{Expr, Invariants, Named, Simple, Stmt, TypeName};
 use sqlite_items::Boxed;
@@ -218,14 +221,14 @@ fn simple<'a>(
 fn part<'a>(
     tables: &Tables<'_>,
     scope: &mut Scope<'a>,
-    part: &'a Option<Simple>,
+    part: &'a Option<Boxed<Simple>>,
     least: &mut Option<Violation>,
 ) -> Result<(), AllocError>
     ensures least { OnOk result (least.new ≡ fold earlier least.old (part_violations tables.now scope.old (option_map simple_view part.now))) }
     ensures scope { OnOk result (scope.new ≡ part_behind tables.now scope.old (option_map simple_view part.now)) }
 {
     match part {
-        Some(part) => simple(tables, scope, part, least),
+        Some(part) => simple(tables, scope, part.get(), least),
         None => Ok(()),
     }
 }
@@ -289,7 +292,7 @@ fn returning(
 fn last_part<'a>(
     tables: &Tables<'_>,
     scope: &mut Scope<'a>,
-    last: &'a Option<Simple>,
+    last: &'a Option<Boxed<Simple>>,
     least: &mut Option<Violation>,
 ) -> Result<(), AllocError>
     ensures least { OnOk result (least.new ≡ fold earlier least.old (part_violations tables.now scope.old (option_map simple_view last.now))) }
@@ -490,7 +493,7 @@ fn turns<'a>(
     due: ValueType,
     scope: &mut Scope<'a>,
     body: &'a Stmt,
-    last: &'a Option<Simple>,
+    last: &'a Option<Boxed<Simple>>,
     least: &mut Option<Violation>,
 ) -> Result<(), AllocError>
     ensures least { OnOk result (least.new ≡ fold earlier least.old (stmt_violations tables.now due scope.old (stmt_view body.now) ++ part_violations tables.now (closed scope.old (stmt_behind tables.now scope.old (stmt_view body.now))) (option_map simple_view last.now))) }

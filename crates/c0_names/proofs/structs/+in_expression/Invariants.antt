@@ -1,3 +1,4 @@
+-- What holds in the loop of the calls around `in_expression`.
 use Rattle.std.proofs.Common.{◌≡◌, drop, fold}
 use Rattle.c0_names.specs.Names.{names_with}
 use Rattle.parsed_tree.specs.Views.{exprs_view}

@@ -1,3 +1,4 @@
+-- What holds in the loop of `in_params`.
 use Rattle.std.proofs.Common.{◌≡◌, drop, fold}
 use Rattle.c0_names.specs.Names.{names_with}
 use Rattle.c0_names.specs.Tables.{params_structs}

@@ -1,3 +1,4 @@
+-- What holds in the loop of `tables_of`.
 use Rattle.std.proofs.Common.{◌≡◌, drop, fold, map}
 use Rattle.parsed_tree.specs.Views.{item_view, program_view}
 use Rattle.c0_names.specs.Tables.{with_item, tables_of}

@@ -1,7 +1,8 @@
+-- What holds in the loop of `all_functions`.
 use Rattle.std.proofs.Common.{◌≡◌, ◌++◌, drop, map}
 use Rattle.gc0_tree.specs.Views.{function_view}
 use Rattle.parsed_tree.specs.Views.{item_view}
-use Rattle.c0_numbers.specs.Texts.{items_texts}
+use Rattle.c0_numbers.specs.StatementTexts.{items_texts}
 use Rattle.c0_numbers.specs.Resolved.{functions_tree}
 use Rattle.c0_numbers.proofs.program.all_functions.Given as goal
 

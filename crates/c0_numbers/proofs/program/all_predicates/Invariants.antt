@@ -1,3 +1,4 @@
+-- What holds in the loop of `all_predicates`.
 use Rattle.std.proofs.Common.{◌≡◌, ◌++◌, drop, map}
 use Rattle.gc0_tree.specs.Views.{predicate_view}
 use Rattle.parsed_tree.specs.Views.{item_view}

@@ -1,3 +1,4 @@
+-- What the search leaves of the proof of `numbered`.
 use Rattle.c0_numbers.proofs.program.numbered.Goals as goal
 
 pub returns : goal.returns

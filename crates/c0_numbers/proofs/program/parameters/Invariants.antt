@@ -1,3 +1,4 @@
+-- What holds in the loop of `parameters`.
 use Rattle.std.proofs.Common.{◌≡◌, drop}
 use Rattle.c0_numbers.specs.Resolved.{params_behind, params_of}
 use Rattle.c0_numbers.proofs.program.parameters.Given as goal

@@ -1,3 +1,4 @@
+-- What the search leaves of the proof of `shapes_of`.
 use Rattle.std.proofs.Common.{◌≡◌, ◌∙◌, ◌∷◌, [], ◌++◌, ap, ◌+◌, drop}
 use Rattle.std.proofs.lemmas.List.{drop_more}
 use Rattle.c0_numbers.specs.Resolved.{named_shape}

@@ -1,3 +1,4 @@
+-- What holds in the loop of `shapes_of`.
 use Rattle.std.proofs.Common.{◌≡◌, ◌++◌, drop, map}
 use Rattle.std.specs.List.{zip}
 use Rattle.c0_numbers.specs.Resolved.{named_shape, shapes_of}

@@ -1,3 +1,4 @@
+-- What the search leaves of the proof of `structs`.
 use Rattle.std.proofs.Common.{◌≡◌, ◌∙◌, ◌∷◌, [], ◌++◌, ap, sym, ◌+◌, drop, map}
 use Rattle.std.proofs.lemmas.List.{drop_more}
 use Rattle.gc0_tree.specs.Views.{struct_view}

@@ -1,3 +1,4 @@
+-- What holds in the loop of `structs`.
 use Rattle.std.proofs.Common.{◌≡◌, ◌++◌, drop, map}
 use Rattle.std.specs.List.{zip}
 use Rattle.gc0_tree.specs.Views.{struct_view}

@@ -1,3 +1,4 @@
+-- What the search leaves of the proofs of the calls around `statement`.
 use Rattle.std.proofs.Common.{◌≡◌, ◌∙◌, ◌∷◌, ap, sym, ◌+◌, drop}
 use Rattle.std.proofs.lemmas.List.{drop_more}
 use Rattle.c0_numbers.proofs.Blocks.{stmt_step, frame_step, stmt_texts_step, stmts_done}

@@ -1,6 +1,7 @@
+-- What holds in the loop of the calls around `statement`.
 use Rattle.std.proofs.Common.{◌≡◌, drop}
 use Rattle.parsed_tree.specs.Views.{stmts_view}
-use Rattle.c0_numbers.specs.Texts.{stmts_texts}
+use Rattle.c0_numbers.specs.StatementTexts.{stmts_texts}
 use Rattle.c0_numbers.specs.Statements.{stmts_frame, stmts_tree}
 use Rattle.c0_numbers.specs.Rows.{stmts_before}
 use Rattle.c0_numbers.proofs.statements.+statement.Given as goal

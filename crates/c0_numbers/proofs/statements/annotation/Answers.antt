@@ -1,3 +1,4 @@
+-- What the search leaves of the proof of `annotation`.
 use Rattle.std.proofs.Common.{◌≡◌, ◌∙◌, ap, sym, map}
 use Rattle.gc0_tree.specs.Tree.{no_stmts}
 use Rattle.parsed_tree.specs.Views.{note_view}

@@ -1,3 +1,4 @@
+-- What the search leaves of the proof of `push_made`.
 use Rattle.std.proofs.Common.{◌≡◌, ◌∙◌, ap}
 use Rattle.c0_numbers.specs.Rows.{stmts_before}
 use Rattle.c0_numbers.proofs.Blocks.{stmt_pushed}

@@ -1,3 +1,4 @@
+-- What the search leaves of the proof of `push_notes`.
 use Rattle.std.proofs.Common.{◌≡◌, ◌∙◌, ◌∷◌, ap, sym, ◌+◌, drop}
 use Rattle.std.proofs.lemmas.List.{drop_more}
 use Rattle.c0_numbers.proofs.Blocks.{note_step}

@@ -1,3 +1,4 @@
+-- What holds in the loop of `push_notes`.
 use Rattle.std.proofs.Common.{◌≡◌, drop, map}
 use Rattle.gc0_tree.specs.Tree.{Stmts}
 use Rattle.parsed_tree.specs.Views.{note_view}

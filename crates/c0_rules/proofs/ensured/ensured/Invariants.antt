@@ -1,3 +1,4 @@
+-- What holds in the loop of `ensured`.
 use Rattle.std.proofs.Common.{◌≡◌, ◌&&◌, drop, fold, map, []}
 use Rattle.c0_names.specs.Names.{names_with}
 use Rattle.parsed_tree.specs.Views.{contract_view}

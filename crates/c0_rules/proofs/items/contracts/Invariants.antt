@@ -1,5 +1,6 @@
+-- What holds in the loop of `contracts`.
 use Rattle.std.proofs.Common.{◌≡◌, ◌&&◌, drop, fold, map, []}
-use Rattle.c0_rules.specs.Violations.{earlier, least_of}
+use Rattle.c0_value_rules.specs.Violations.{earlier, least_of}
 use Rattle.parsed_tree.specs.Views.{contract_view}
 use Rattle.c0_rules.specs.Rules.{contract_violations}
 use Rattle.c0_rules.proofs.items.contracts.Given as goal

@@ -1,5 +1,6 @@
+-- What holds in the loop of `fields`.
 use Rattle.std.proofs.Common.{◌≡◌, ◌&&◌, drop, fold, map, []}
-use Rattle.c0_rules.specs.Violations.{earlier, least_of}
+use Rattle.c0_value_rules.specs.Violations.{earlier, least_of}
 use Rattle.c0_names.specs.Tables.{no_types}
 use Rattle.c0_rules.specs.Rules.{fields_violations}
 use Rattle.c0_rules.proofs.items.fields.Given as goal

@@ -1,5 +1,6 @@
+-- What holds in the loop of `params`.
 use Rattle.std.proofs.Common.{◌≡◌, ◌&&◌, drop, fold, map, []}
-use Rattle.c0_rules.specs.Violations.{earlier, least_of}
+use Rattle.c0_value_rules.specs.Violations.{earlier, least_of}
 use Rattle.c0_rules.specs.Rules.{params_violations, params_scope}
 use Rattle.c0_rules.proofs.items.params.Given as goal
 

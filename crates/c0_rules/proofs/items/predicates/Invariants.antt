@@ -1,5 +1,6 @@
+-- What holds in the loop of `predicates`.
 use Rattle.std.proofs.Common.{◌≡◌, ◌&&◌, drop, fold, map, []}
-use Rattle.c0_rules.specs.Violations.{earlier, least_of}
+use Rattle.c0_value_rules.specs.Violations.{earlier, least_of}
 use Rattle.parsed_tree.specs.Views.{predicate_view}
 use Rattle.c0_names.specs.Tables.{with_predicate}
 use Rattle.c0_rules.specs.Rules.{predicates_violations}

@@ -1,3 +1,4 @@
+-- What holds in the loop of `same_types`.
 use Rattle.std.proofs.Common.{◌≡◌, ◌&&◌, drop, length}
 use Rattle.c0_rules.specs.Rules.{same_types}
 use Rattle.c0_rules.proofs.items.same_types.Given as goal

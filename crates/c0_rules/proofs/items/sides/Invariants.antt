@@ -1,5 +1,6 @@
+-- What holds in the loop of `sides`.
 use Rattle.std.proofs.Common.{◌≡◌, ◌&&◌, drop, fold, map, []}
-use Rattle.c0_rules.specs.Violations.{earlier, least_of}
+use Rattle.c0_value_rules.specs.Violations.{earlier, least_of}
 use Rattle.parsed_tree.specs.Views.{clause_view}
 use Rattle.c0_rules.specs.Rules.{sides_violations}
 use Rattle.c0_rules.proofs.items.sides.Given as goal

@@ -1,3 +1,4 @@
+-- What the search leaves of the proofs of the calls around `statement`.
 use Rattle.std.specs.Option.{option_map}
 use Rattle.parsed_tree.specs.Views.{stmt_view, simple_view}
 use Rattle.c0_rules.proofs.Kept.{apart_scope, turns_scope}

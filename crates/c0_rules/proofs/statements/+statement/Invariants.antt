@@ -1,7 +1,8 @@
+-- What holds in the loop of the calls around `statement`.
 use Rattle.std.proofs.Common.{◌≡◌, drop, fold}
 use Rattle.parsed_tree.specs.Views.{stmts_view}
-use Rattle.c0_rules.specs.Violations.{earlier}
-use Rattle.c0_rules.specs.Scopes.{stmts_behind}
+use Rattle.c0_value_rules.specs.Violations.{earlier}
+use Rattle.c0_rules.specs.Behind.{stmts_behind}
 use Rattle.c0_rules.specs.Statements.{stmts_violations}
 use Rattle.c0_rules.proofs.statements.+statement.Given as goal
 

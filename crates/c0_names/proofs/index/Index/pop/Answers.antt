@@ -1,3 +1,4 @@
+-- What the search leaves of the proof of `pop`.
 use Rattle.std.proofs.Common.{◌∙◌, ap}
 use Rattle.c0_names.specs.Names.{front}
 use Rattle.c0_names.proofs.Indexing.{popped_entry, stands_entry, front_entry}

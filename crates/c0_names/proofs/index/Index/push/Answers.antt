@@ -1,3 +1,4 @@
+-- What the search leaves of the proof of `push`.
 use Rattle.std.proofs.Common.{◌∙◌, ap, sym, arith}
 use Rattle.c0_names.specs.Names.{last_place}
 use Rattle.c0_names.proofs.Indexing.{pushed_entry}

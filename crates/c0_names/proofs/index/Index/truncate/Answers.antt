@@ -1,3 +1,4 @@
+-- What the search leaves of the proof of `truncate`.
 use Rattle.std.proofs.Common.{◌<◌, ◌∙◌, ap, length, take, arith}
 use Rattle.c0_names.proofs.Fronts.{take-front, length-front}
 use Rattle.c0_names.proofs.index.Index.truncate.Goals as goal

@@ -1,3 +1,4 @@
+-- What holds in the loop of `truncate`.
 use Rattle.std.proofs.Common.{◌≡◌, take, length}
 use Rattle.c0_names.proofs.index.Index.truncate.Given as goal
 

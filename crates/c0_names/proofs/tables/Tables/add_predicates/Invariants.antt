@@ -1,3 +1,4 @@
+-- What holds in the loop of `add_predicates`.
 use Rattle.std.proofs.Common.{◌≡◌, drop, fold, map}
 use Rattle.parsed_tree.specs.Views.{predicate_view}
 use Rattle.c0_names.specs.Tables.{with_predicate}

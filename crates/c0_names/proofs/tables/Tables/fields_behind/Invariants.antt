@@ -1,3 +1,4 @@
+-- What holds in the loop of `fields_behind`.
 use Rattle.std.proofs.Common.{◌≡◌, drop}
 use Rattle.c0_names.specs.Tables.{fields_behind, no_types}
 use Rattle.c0_names.proofs.tables.Tables.fields_behind.Given as goal

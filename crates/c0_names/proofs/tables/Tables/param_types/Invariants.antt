@@ -1,3 +1,4 @@
+-- What holds in the loop of `param_types`.
 use Rattle.std.proofs.Common.{◌≡◌, ◌++◌, drop}
 use Rattle.c0_names.specs.Tables.{param_types}
 use Rattle.c0_names.proofs.tables.Tables.param_types.Given as goal

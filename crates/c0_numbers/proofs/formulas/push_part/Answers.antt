@@ -1,6 +1,0 @@
-use Rattle.std.proofs.Common.{◌≡◌, ◌∙◌, ap}
-use Rattle.c0_numbers.proofs.Fronts.{parts_before, part_pushed}
-use Rattle.c0_numbers.proofs.formulas.push_part.Goals as goal
-
-pub returns : goal.returns
-returns c rest = ap (λ cs. parts_before cs rest) c.in_ok-push.ensures.ok ∙ part_pushed c.args.parts.now c.args.part rest

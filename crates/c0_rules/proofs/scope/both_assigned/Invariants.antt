@@ -1,6 +1,0 @@
-use Rattle.std.proofs.Common.{◌≡◌, ◌++◌, drop}
-use Rattle.c0_rules.specs.Scopes.{both_assigned}
-use Rattle.c0_rules.proofs.scope.both_assigned.Given as goal
-
-abbrev pub invariant-loop-place : goal.invariant-loop-place
-invariant-loop-place l = l.both ++ both_assigned (drop l.place l.f) (drop l.place l.g) ≡ both_assigned l.f l.g
