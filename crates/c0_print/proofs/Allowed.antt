@@ -8,7 +8,8 @@ use Rattle.parsed_tree.specs.Tree.{ExprTree, number, truth, null, local, outcome
 use Rattle.c0_grammar.specs.Written.{BaseText, int_word, bool_word, struct_word, alias_word, base_tree, TypeText, type_tree, Written, digits, truth_token, null_token, word, result_word, before, between, choice, round, called, called_text, allocated, arrow_to, permission, Args, no_args, some_args, More, no_more, more_and, tree_of, args_trees, more_trees, FormulaText, unknown, unknown_and, known, formula_tree}
 use Rattle.c0_grammar.specs.Allowed.{rank, ranks, height, is_primary, is_path, Mode, code, conjunct, value, is_code, is_conjunct, has_calls, inside, right_of, has, is_value, left_fits, condition_fits, base_fits, GoodBase, GoodType, Good, GoodArgs, GoodMore, GoodFormula}
 use Rattle.c0_grammar.specs.Grammar.{is_place}
-use Rattle.c0_print.specs.Printing.{nowhere, base_of, type_of, rounded, is_wide, closed, is_no_primary, based, written, args_of, more_of, formula_of}
+use Rattle.c0_layout.specs.Rounding.{nowhere, rounded, is_wide, closed, is_no_primary, based}
+use Rattle.c0_print.specs.Printing.{base_of, type_of, written, args_of, more_of, formula_of}
 use Rattle.c0_print.specs.Erased.{erased}
 use Rattle.c0_print.proofs.Trees.{closed_again, expr_again}
 

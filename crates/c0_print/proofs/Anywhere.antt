@@ -14,7 +14,8 @@ use Rattle.c0_grammar.specs.Tokens.{end_mark, What, fixed, Token, token, end_tok
 use Rattle.c0_grammar.specs.Lists.{spell_all}
 use Rattle.c0_grammar.specs.Texts.{tree_option, ItemText, spell_item, spell_use, ProgramText, spell_program, program_tree, depth_program}
 use Rattle.c0_grammar.specs.Grammar.{GoodItems, IsProgram}
-use Rattle.c0_print.specs.Printing.{nowhere, text_of}
+use Rattle.c0_layout.specs.Rounding.{nowhere}
+use Rattle.c0_print.specs.Printing.{text_of}
 use Rattle.c0_print.specs.Erased.{no_spot, erased_name, erased_base, erased_type, erased, all_erased, erased_formula, erased_instance, erased_form, erased_note, erased_invariant, erased_invariants, erased_value, erased_simple, erased_stmt, erased_stmts, erased_clause, erased_contract, erased_param, erased_field, erased_result, erased_head, erased_predicate, erased_item, erased_program}
 use Rattle.c0_print.specs.Laws.{whats, IsSame}
 use Rattle.c0_print.proofs.StatementTrees.{program_again}

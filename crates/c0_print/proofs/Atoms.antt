@@ -13,7 +13,7 @@ use Rattle.c0_lex.specs.Words.{keyword_bytes, symbol_bytes}
 use Rattle.c0_lex.specs.Pieces.{is_inside, is_blank, begins_comment}
 use Rattle.c0_grammar.specs.Tokens.{keyword, symbol, name_token, use_token, begins_annotation, ends_annotation}
 use Rattle.c0_print.specs.Laws.{whats}
-use Rattle.c0_print.specs.Layout.{spaced}
+use Rattle.c0_layout.specs.Layout.{spaced}
 use Rattle.c0_print.proofs.Longest.{extends, longest, is_equals, before_space, plain_before_space}
 use Rattle.c0_print.proofs.Longest as whole
 use Rattle.c0_print.proofs.Cutting.{Cuts, skip, put, Part, Free}

@@ -10,17 +10,14 @@ use Rattle.c0_lex.specs.Pieces.{is_blank, IsToken, Piece, blank, lexeme}
 use Rattle.c0_lex.specs.Texts.{Lexeme, Spot, start, mode_behind, behind, spelled, ArePieces, tokens_of, end_at, HasTokens}
 use Rattle.c0_grammar.specs.Tokens.{end_mark, What, fixed, Token}
 use Rattle.c0_grammar.specs.Seen.{what_of}
+use Rattle.c0_grammar.specs.Lexemes.{read_what}
 use Rattle.c0_print.specs.Laws.{whats}
-
--- what a token of a text is to the grammar
-abbrev pub lexeme_what : Lexeme → What
-lexeme_what l = what_of l.kind l.bytes
 
 -- the text has tokens, and what they are is this
 pub record HasWhats (text : List ℕ) (ws : List What) : Type 0 where
   pub lexemes : List Lexeme
   pub tokens : HasTokens text lexemes
-  pub same : map lexeme_what lexemes ≡ ws
+  pub same : map read_what lexemes ≡ ws
 
 -- from this spot on the text is pieces whose tokens are these, with the end of the text last
 pub record Cut (s : Spot) (text : List ℕ) (ws : List What) : Type 0 where
@@ -28,7 +25,7 @@ pub record Cut (s : Spot) (text : List ℕ) (ws : List What) : Type 0 where
   pub fit : ArePieces s pieces []
   pub whole : spelled pieces [] ≡ text
   pub closed : (behind s pieces).mode ≡ Outside
-  pub listed : map lexeme_what (tokens_of s pieces) ++ fixed end_mark ∷ [] ≡ ws
+  pub listed : map read_what (tokens_of s pieces) ++ fixed end_mark ∷ [] ≡ ws
 
 abbrev pub spot_at : Mode → Place → Spot
 spot_at m at = record { mode = m; place = at }
@@ -95,9 +92,9 @@ pub weak : {E : List ℕ → Type 0} {m n : Mode} {a : List ℕ} {f : List Token
 weak p = record { by = λ rest ts e c. p.by rest ts tt c }
 
 -- ---- a whole text
-last_what : (ls : List Lexeme) (l : Lexeme) → map lexeme_what (ls ++ l ∷ []) ≡ map lexeme_what ls ++ lexeme_what l ∷ []
+last_what : (ls : List Lexeme) (l : Lexeme) → map read_what (ls ++ l ∷ []) ≡ map read_what ls ++ read_what l ∷ []
 last_what [] l = refl
-last_what (x ∷ ls) l = ap (λ ws. lexeme_what x ∷ ws) (last_what ls l)
+last_what (x ∷ ls) l = ap (λ ws. read_what x ∷ ws) (last_what ls l)
 
 pub whole_text : (text : List ℕ) (ws : List What) → Cuts Outside text ws → HasWhats text ws
 whole_text text ws r =

@@ -4,7 +4,8 @@ use Rattle.std.proofs.lemmas.Bool.{le-leb}
 use Rattle.gc0_base.specs.declared.place.Place.{Place}
 use Rattle.c0_grammar.specs.Written.{Written, digits, truth_token, null_token, word, result_word, before, between, choice, round, called, called_text, allocated, arrow_to, permission, Args, no_args, some_args, More, no_more, more_and, tree_of, args_trees, more_trees, depth, depth_args, depth_more, FormulaText, unknown, unknown_and, known, formula_tree, depth_formula}
 use Rattle.c0_grammar.specs.Allowed.{rank, ranks, height, is_primary, is_path, Mode, code, conjunct, value, inside, right_of, base_fits, Good, GoodArgs, GoodMore, GoodFormula}
-use Rattle.c0_print.specs.Printing.{rounded, is_wide, closed, is_no_primary, based, written, args_of, more_of, formula_of}
+use Rattle.c0_layout.specs.Rounding.{rounded, is_wide, closed, is_no_primary, based}
+use Rattle.c0_print.specs.Printing.{written, args_of, more_of, formula_of}
 use Rattle.c0_print.proofs.Allowed.{from_same, primary_based, path_primary}
 
 pub up : (a b : ℕ) → a ≤ b → a + 1 ≤ b + 1

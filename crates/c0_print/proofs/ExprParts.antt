@@ -15,8 +15,8 @@ use Rattle.c0_grammar.specs.Tokens.{Token, keyword, symbol, name_token}
 use Rattle.c0_grammar.specs.Lists.{Each, spell_all}
 use Rattle.c0_grammar.specs.Written.{truth_word, unary_symbol, operator_symbol, BaseText, int_word, bool_word, struct_word, alias_word, spell_base, spell_star, TypeText, spell_type, Written, digits, truth_token, null_token, word, result_word, before, between, choice, round, called, called_text, allocated, arrow_to, permission, Args, no_args, some_args, More, no_more, more_and, spell, spell_args, spell_more, FormulaText, unknown, unknown_and, known, spell_formula}
 use Rattle.c0_grammar.specs.Allowed.{height}
-use Rattle.c0_print.specs.Lists.{all_text}
-use Rattle.c0_print.specs.Layout.{base_text, star_text, type_text, typed_text, begins_minus, unary_gap, expr_text, args_text, more_text, formula_text}
+use Rattle.c0_layout.specs.Lists.{all_text}
+use Rattle.c0_layout.specs.Layout.{base_text, star_text, type_text, typed_text, begins_minus, unary_gap, expr_text, args_text, more_text, formula_text}
 use Rattle.c0_print.proofs.Longest.{is_equals, is_behind_minus}
 use Rattle.c0_print.proofs.Longest as whole
 use Rattle.c0_print.proofs.Cutting.{Part, Free, join, then, none, weak}

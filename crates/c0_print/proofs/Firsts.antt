@@ -8,8 +8,8 @@ use Rattle.parsed_tree.specs.declared.expressions.UnaryOperator.TheVariants as u
 use Rattle.c0_lex.specs.Bytes.{is_digit, is_letter, is_word_byte, begins_with}
 use Rattle.c0_grammar.specs.Written.{Written, digits, truth_token, null_token, word, result_word, before, between, choice, round, called, called_text, allocated, arrow_to, permission}
 use Rattle.c0_grammar.specs.Allowed.{height, is_primary}
-use Rattle.c0_print.specs.Literals.{literal_text}
-use Rattle.c0_print.specs.Layout.{begins_minus, expr_text}
+use Rattle.c0_layout.specs.Literals.{literal_text}
+use Rattle.c0_layout.specs.Layout.{begins_minus, expr_text}
 use Rattle.c0_print.proofs.Longest.{is_equals, is_behind_minus}
 use Rattle.c0_print.proofs.Legible.{IsName, Legible}
 use Rattle.c0_print.proofs.Numerals.{literal_is}

@@ -18,9 +18,9 @@ use Rattle.parsed_tree.specs.declared.items.Side.TheVariants as side
 use Rattle.c0_grammar.specs.Tokens.{keyword, symbol, name_token, end_token}
 use Rattle.c0_grammar.specs.Lists.{Each, spell_all}
 use Rattle.c0_grammar.specs.Texts.{side_word, ClauseText, spell_clause, ContractText, spell_contract, ParamText, spell_param, NextParam, spell_next, Params, no_params, some_params, spell_params, ResultText, void_word, gives, spell_result, HeadText, spell_head, PredicateWritten, spell_predicate, FieldText, spell_field, ItemText, names_struct, defines_struct, defines_type, declares_function, defines_function, defines_predicates, spell_item, library_name, UseText, spell_use, ProgramText, spell_program}
-use Rattle.c0_print.specs.Lists.{all_text}
+use Rattle.c0_layout.specs.Lists.{all_text}
 use Rattle.c0_print.specs.Laws.{whats}
-use Rattle.c0_print.specs.Layout.{clause_text, contract_text, param_text, next_text, params_text, result_text, signature_text, head_text, predicate_text, field_text, prototype_text, item_text, use_text, program_text}
+use Rattle.c0_layout.specs.Layout.{clause_text, contract_text, param_text, next_text, params_text, result_text, signature_text, head_text, predicate_text, field_text, prototype_text, item_text, use_text, program_text}
 use Rattle.c0_print.proofs.Longest.{is_behind_angle}
 use Rattle.c0_print.proofs.Longest as whole
 use Rattle.c0_print.proofs.Cutting.{HasWhats, Cuts, nothing, Part, Free, join, then, none, whole_text}

@@ -1,9 +1,8 @@
+-- The lemmas of this crate.
 pub mod Joins
 pub mod Behind
 pub mod Spaced
 pub mod Pushes
-pub mod Something
-pub mod Choices
 pub mod Trees
 pub mod StatementTrees
 pub mod Allowed

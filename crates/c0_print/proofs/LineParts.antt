@@ -13,8 +13,8 @@ use Rattle.c0_grammar.specs.Lists.{Each, spell_all}
 use Rattle.c0_grammar.specs.Written.{Written, spell, Args}
 use Rattle.c0_grammar.specs.Texts.{NoteText, asserts_note, folds_note, unfolds_note, spell_instance, spell_note, InvariantText, spell_invariant, InvariantsText, spell_invariants, update_symbol, step_symbol, SimpleText, declares, declares_as, assigns, steps, evaluates, spell_simple, spell_option, Line, simple_line, braces, ifs, ifs_else, whiles, fors, returns, asserts, raises, notes, Lines, no_lines, line_and, spell_line, spell_lines}
 use Rattle.c0_grammar.specs.Grammar.{GoodOption}
-use Rattle.c0_print.specs.Lists.{spaced_text, joined_text, option_text}
-use Rattle.c0_print.specs.Layout.{expr_text, annotation_text, instance_text, note_text, invariant_text, invariants_text, simple_text, for_text, return_text, line_text, lines_text}
+use Rattle.c0_layout.specs.Lists.{spaced_text, joined_text, option_text}
+use Rattle.c0_layout.specs.Layout.{expr_text, annotation_text, instance_text, note_text, invariant_text, invariants_text, simple_text, for_text, return_text, line_text, lines_text}
 use Rattle.c0_print.proofs.Cutting.{Part, Free, join, then, none, weak}
 use Rattle.c0_print.proofs.Legible.{IsName, Legible, LegibleArgs, LegibleNote, LegibleInvariant, LegibleInvariants, LegibleSimple, LegibleLine, LegibleLines}
 use Rattle.c0_print.proofs.Atoms.{Stops, keyword_part, name_part, gap, newline, open_note, close_note, open_paren, close_paren, open_brace, close_brace, semicolon, increment, decrement, spaced_part}

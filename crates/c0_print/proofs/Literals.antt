@@ -7,7 +7,7 @@ use Rattle.c0_lex.specs.declared.token.Mode.{Mode}
 use Rattle.c0_lex.specs.Words.{QuotedMeans}
 use Rattle.c0_grammar.specs.Tokens.{text_what, number_token, text_token}
 use Rattle.c0_print.specs.Laws.{whats}
-use Rattle.c0_print.specs.Literals.{literal_text, string_text}
+use Rattle.c0_layout.specs.Literals.{literal_text, string_text}
 use Rattle.c0_print.proofs.Cutting.{Cuts, put, Part, Free}
 use Rattle.c0_print.proofs.Legible.{IsContent}
 use Rattle.c0_print.proofs.Atoms.{Stops, word_ends}

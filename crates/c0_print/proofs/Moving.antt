@@ -7,7 +7,7 @@ use Rattle.c0_grammar.specs.Tokens.{word_mark, sign_mark, use_mark, open_mark, c
 use Rattle.c0_grammar.specs.Lists.{spell_all}
 use Rattle.c0_grammar.specs.Written.{truth_word, unary_symbol, operator_symbol, BaseText, int_word, bool_word, struct_word, alias_word, TypeText, spell_base, spell_star, spell_type, Written, digits, truth_token, null_token, word, result_word, before, between, choice, round, called, called_text, allocated, arrow_to, permission, Args, no_args, some_args, More, no_more, more_and, spell, spell_args, spell_more, FormulaText, unknown, unknown_and, known, spell_formula}
 use Rattle.c0_grammar.specs.Texts.{spell_option, tree_option}
-use Rattle.c0_print.specs.Printing.{nowhere}
+use Rattle.c0_layout.specs.Rounding.{nowhere}
 use Rattle.c0_print.proofs.Shapes.{shape_star, shape_base, shape_type, shape_expr, shape_args, shape_more, shape_formula}
 use Rattle.c0_print.specs.Laws.{whats}
 

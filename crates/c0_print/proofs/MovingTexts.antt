@@ -7,7 +7,7 @@ use Rattle.c0_grammar.specs.Tokens.{word_mark, sign_mark, use_mark, open_mark, c
 use Rattle.c0_grammar.specs.Lists.{spell_all}
 use Rattle.c0_grammar.specs.Written.{spell_type, spell, spell_args, spell_formula}
 use Rattle.c0_grammar.specs.Texts.{NoteText, asserts_note, folds_note, unfolds_note, spell_note, InvariantText, spell_invariant, InvariantsText, spell_invariants, update_symbol, step_symbol, SimpleText, declares, declares_as, assigns, steps, evaluates, spell_simple, spell_option, tree_option, Line, simple_line, braces, ifs, ifs_else, whiles, fors, returns, asserts, raises, notes, Lines, no_lines, line_and, spell_line, spell_lines, side_word, ClauseText, spell_clause, ContractText, spell_contract, ParamText, spell_param, NextParam, spell_next, Params, no_params, some_params, spell_params, ResultText, void_word, gives, spell_result, HeadText, spell_head, PredicateWritten, spell_predicate, FieldText, spell_field, ItemText, names_struct, defines_struct, defines_type, declares_function, defines_function, defines_predicates, spell_item, library_name, UseText, spell_use}
-use Rattle.c0_print.specs.Printing.{nowhere}
+use Rattle.c0_layout.specs.Rounding.{nowhere}
 use Rattle.c0_print.proofs.Shapes.{shape_type, shape_expr, shape_note, shape_invariant, shape_invariants, shape_simple, shape_line, shape_lines, shape_clause, shape_contract, shape_param, shape_next, shape_params, shape_result, shape_head, shape_predicate, shape_field, shape_item, shape_use}
 use Rattle.c0_print.specs.Laws.{whats}
 use Rattle.c0_print.proofs.Moving.{front, Moves, move_all, move_option, move_type, move_expr, move_args, move_formula}

@@ -9,7 +9,7 @@ use Rattle.std.proofs.lemmas.Fmt.{decimal_by_steps}
 use Rattle.c0_lex.specs.Bytes.{is_digit, is_hexadecimal_digit, is_word_byte, begins_with}
 use Rattle.c0_lex.specs.Words.{decimal_value, is_decimal, digit_value, is_hexadecimal, number_of}
 use Rattle.c0_lex.specs.Pieces.{is_digit_run}
-use Rattle.c0_print.specs.Literals.{capital_digit, eight_digits, literal_text}
+use Rattle.c0_layout.specs.Literals.{capital_digit, eight_digits, literal_text}
 
 abbrev pub is_zero : ℕ → Bool
 is_zero b = b == 48

@@ -10,7 +10,8 @@ use Rattle.c0_grammar.specs.Lists.{Each, spell_all}
 use Rattle.c0_grammar.specs.Written.{BaseText, int_word, bool_word, struct_word, alias_word, spell_base, base_tree, spell_star, TypeText, spell_type, type_tree, Written, digits, truth_token, null_token, word, result_word, before, between, choice, round, called, called_text, allocated, arrow_to, permission, Args, no_args, some_args, More, no_more, more_and, spell, spell_args, spell_more, tree_of, args_trees, more_trees, FormulaText, unknown, unknown_and, known, spell_formula, formula_tree}
 use Rattle.c0_grammar.specs.Allowed.{ranks, height, is_primary}
 use Rattle.c0_print.specs.Laws.{whats}
-use Rattle.c0_print.specs.Printing.{base_of, type_of, rounded, is_wide, closed, is_no_primary, based, written, args_of, more_of, formula_of}
+use Rattle.c0_print.specs.Printing.{base_of, type_of, written, args_of, more_of, formula_of}
+use Rattle.c0_layout.specs.Rounding.{rounded, is_wide, closed, is_no_primary, based}
 use Rattle.c0_print.proofs.Legible.{LegibleBase, LegibleType, Legible, LegibleArgs, LegibleMore, LegibleFormula}
 use Rattle.c0_print.proofs.Sources.{CanAll}
 

@@ -11,7 +11,7 @@ use Rattle.parsed_tree.specs.Tree.{ExprTree, number, truth, null, local, outcome
 use Rattle.c0_grammar.specs.Lists.{depth_all}
 use Rattle.c0_grammar.specs.Written.{BaseText, int_word, bool_word, struct_word, alias_word, TypeText, type_tree, base_tree, named_at, joined, chosen, pointed, Written, digits, truth_token, null_token, word, result_word, before, between, choice, round, called, called_text, allocated, arrow_to, permission, Args, no_args, some_args, More, no_more, more_and, tree_of, args_trees, more_trees, depth, depth_args, depth_more, FormulaText, unknown, unknown_and, known, formula_tree, depth_formula}
 use Rattle.c0_grammar.specs.Texts.{NoteText, asserts_note, folds_note, unfolds_note, note_tree, depth_note, InvariantText, invariant_tree, depth_invariant, InvariantsText, invariants_tree, depth_invariants, SimpleText, declares, declares_as, assigns, steps, evaluates, simple_tree, depth_simple, tree_option, depth_option, Line, simple_line, braces, ifs, ifs_else, whiles, fors, returns, asserts, raises, notes, Lines, no_lines, line_and, line_tree, line_trees, depth_notes, depth_line, depth_lines, ClauseText, clause_tree, depth_clause, ContractText, contract_tree, depth_contract, ParamText, param_tree, NextParam, next_tree, Params, no_params, some_params, params_trees, ResultText, void_word, gives, result_tree, HeadText, head_tree, PredicateWritten, predicate_tree, depth_predicate, FieldText, field_tree, ItemText, names_struct, defines_struct, defines_type, declares_function, defines_function, defines_predicates, item_tree, depth_item, UseText, use_tree, ProgramText, program_tree, depth_program}
-use Rattle.c0_print.specs.Printing.{nowhere}
+use Rattle.c0_layout.specs.Rounding.{nowhere}
 use Rattle.c0_print.specs.Erased.{no_spot, erased_name, erased_base, erased_type, erased, all_erased, erased_formula, erased_note, erased_invariant, erased_invariants, erased_simple, erased_stmt, erased_stmts, erased_clause, erased_contract, erased_param, erased_field, erased_result, erased_head, erased_predicate, erased_item, erased_program}
 use Rattle.c0_print.proofs.Trees.{from_nowhere, joined_nowhere, chosen_nowhere, pointed_nowhere}
 use Rattle.c0_print.proofs.Shapes.{shape_star, shape_base, shape_type, shape_expr, shape_args, shape_more, shape_formula, shape_note, shape_invariant, shape_invariants, shape_simple, shape_line, shape_lines, shape_clause, shape_contract, shape_param, shape_next, shape_params, shape_result, shape_head, shape_predicate, shape_field, shape_item, shape_use, shape_program}

@@ -3,7 +3,7 @@ use Rattle.std.proofs.Common.{map}
 use Rattle.gc0_base.specs.declared.place.Place.{Place}
 use Rattle.c0_grammar.specs.Written.{BaseText, int_word, bool_word, struct_word, alias_word, TypeText, Written, digits, truth_token, null_token, word, result_word, before, between, choice, round, called, called_text, allocated, arrow_to, permission, Args, no_args, some_args, More, no_more, more_and, FormulaText, unknown, unknown_and, known}
 use Rattle.c0_grammar.specs.Texts.{NoteText, asserts_note, folds_note, unfolds_note, InvariantText, InvariantsText, SimpleText, declares, declares_as, assigns, steps, evaluates, tree_option, Line, simple_line, braces, ifs, ifs_else, whiles, fors, returns, asserts, raises, notes, Lines, no_lines, line_and, ClauseText, ContractText, ParamText, NextParam, Params, no_params, some_params, ResultText, void_word, gives, HeadText, PredicateWritten, FieldText, ItemText, names_struct, defines_struct, defines_type, declares_function, defines_function, defines_predicates, UseText, ProgramText}
-use Rattle.c0_print.specs.Printing.{nowhere}
+use Rattle.c0_layout.specs.Rounding.{nowhere}
 
 abbrev pub shape_star : Place → Place
 shape_star at = nowhere

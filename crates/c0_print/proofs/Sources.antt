@@ -17,8 +17,8 @@ use Rattle.c0_lex.specs.Pieces.{is_inside, IsToken, Piece, blank, line_comment, 
 use Rattle.c0_lex.specs.Texts.{Lexeme, Spot, start, mode_behind, after, ArePieces, tokens_of, end_at, HasTokens}
 use Rattle.c0_grammar.specs.Tokens.{word_mark, sign_mark, use_mark, open_mark, close_mark, end_mark, What, fixed, name_what, number_what, text_what}
 use Rattle.c0_grammar.specs.Seen.{what_of}
-use Rattle.c0_print.specs.Laws.{whats, read_token}
-use Rattle.c0_print.proofs.Cutting.{lexeme_what}
+use Rattle.c0_grammar.specs.Lexemes.{read_what, read_tokens}
+use Rattle.c0_print.specs.Laws.{whats}
 use Rattle.c0_print.proofs.Legible.{has_force, IsName, is_content, IsContent}
 
 -- what a token of a text is, inside an annotation or outside
@@ -168,7 +168,7 @@ inside_kept s bytes kind.AnnotationBegin = begun_inside (bytes_eq bytes (codes "
 inside_kept s bytes kind.AnnotationEnd = refl
 inside_kept s bytes kind.End = refl
 
-pieces_stand : QuotedMeans → (s : Spot) (ps : List Piece) (rest : List ℕ) (end : Place) → ArePieces s ps rest → CanAll (is_inside s.mode) (map lexeme_what (tokens_of s ps ++ end_at end ∷ []))
+pieces_stand : QuotedMeans → (s : Spot) (ps : List Piece) (rest : List ℕ) (end : Place) → ArePieces s ps rest → CanAll (is_inside s.mode) (map read_what (tokens_of s ps ++ end_at end ∷ []))
 pieces_stand means s [] rest end h = (tt, tt)
 pieces_stand means s (blank b ∷ ps) rest end h = pieces_stand means _ ps rest end h.1
 pieces_stand means s (line_comment body ∷ ps) rest end h = pieces_stand means _ ps rest end h.1
@@ -176,14 +176,14 @@ pieces_stand means s (comment c ∷ ps) rest end h = pieces_stand means _ ps res
 pieces_stand means s (lexeme bytes k ∷ ps) rest end h =
     let next : Spot = after s (lexeme bytes k) in
     let more = pieces_stand means next ps rest end h.1 in
-    (token_stands means s.mode bytes k _ h.0, subst (λ (b : Bool). CanAll b (map lexeme_what (tokens_of next ps ++ end_at end ∷ []))) (inside_kept s bytes k) more)
+    (token_stands means s.mode bytes k _ h.0, subst (λ (b : Bool). CanAll b (map read_what (tokens_of next ps ++ end_at end ∷ []))) (inside_kept s bytes k) more)
 
-pub seen_whats : (ls : List Lexeme) → whats (map read_token ls) ≡ map lexeme_what ls
+pub seen_whats : (ls : List Lexeme) → whats (read_tokens ls) ≡ map read_what ls
 seen_whats [] = refl
-seen_whats (l ∷ ls) = ap (λ ws. lexeme_what l ∷ ws) (seen_whats ls)
+seen_whats (l ∷ ls) = ap (λ ws. read_what l ∷ ws) (seen_whats ls)
 
 -- of a whole text
-pub text_stands : QuotedMeans → (text : List ℕ) (ls : List Lexeme) → HasTokens text ls → CanAll false (whats (map read_token ls))
+pub text_stands : QuotedMeans → (text : List ℕ) (ls : List Lexeme) → HasTokens text ls → CanAll false (whats (read_tokens ls))
 text_stands means text ls h =
     let all = pieces_stand means start h.pieces [] (place_after text) h.fit in
-    subst (λ (ws : List What). CanAll false ws) (ap (λ l. map lexeme_what l) h.listed ∙ sym (seen_whats ls)) all
+    subst (λ (ws : List What). CanAll false ws) (ap (λ l. map read_what l) h.listed ∙ sym (seen_whats ls)) all

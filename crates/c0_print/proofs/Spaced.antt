@@ -2,7 +2,7 @@
 use Rattle.std.proofs.Common.{◌≡◌, ℕ, ◌+◌, ◌-◌, ◌<◌, ◌≤◌, List, [], ◌∷◌, ◌++◌, map, length, get_or, take, drop, sym, ap, ◌∙◌, append_assoc, arith}
 use Rattle.std.proofs.lemmas.List.{at_drop_more, take_rest}
 use Rattle.std.specs.Prelude.{codes}
-use Rattle.c0_print.specs.Lists.{spaced_text, joined_text}
+use Rattle.c0_layout.specs.Lists.{spaced_text, joined_text}
 
 -- with one more of them behind the text, the others are left
 pub spaced_step : {A B C : Type 0} (f : C → List ℕ) (g : B → C) (h : A → B) (xs : List A) (i : ℕ) (x : A) (text all spaced pushed : List ℕ)

@@ -13,7 +13,8 @@ use Rattle.parsed_tree.specs.declared.items.Side.{Side}
 use Rattle.parsed_tree.specs.Tree.{ExprTree, FormulaTree, InstanceTree, NoteForm, assert_note, fold_note, unfold_note, NoteTree, InvariantTree, InvariantsTree, SimpleTree, declare, assign, stepped, plain, StmtTree, StmtTrees, ClauseTree, ContractTree, PredicateTree, ItemTree, ProgramTree}
 use Rattle.c0_grammar.specs.Written.{TypeText, type_tree, named_at, Written, tree_of, Args, args_trees, FormulaText, formula_tree}
 use Rattle.c0_grammar.specs.Texts.{NoteText, asserts_note, folds_note, unfolds_note, note_tree, InvariantText, invariant_tree, InvariantsText, invariants_tree, SimpleText, declares, declares_as, assigns, steps, evaluates, simple_tree, tree_option, Line, simple_line, braces, ifs, ifs_else, whiles, fors, returns, asserts, raises, notes, Lines, no_lines, line_and, line_tree, line_trees, ClauseText, clause_tree, ContractText, contract_tree, ParamText, param_tree, NextParam, next_tree, params_trees, result_tree, HeadText, head_tree, PredicateWritten, predicate_tree, FieldText, field_tree, ItemText, names_struct, defines_struct, defines_type, declares_function, defines_function, defines_predicates, item_tree, UseText, use_tree, ProgramText, program_tree}
-use Rattle.c0_print.specs.Printing.{nowhere, type_of, written, args_of, formula_of, note_of, invariant_of, invariants_of, simple_of, line_of, lines_of, clause_of, contract_of, param_of, next_of, params_of, result_of, head_of, predicate_of, field_of, item_of, use_of, text_of}
+use Rattle.c0_layout.specs.Rounding.{nowhere}
+use Rattle.c0_print.specs.Printing.{type_of, written, args_of, formula_of, note_of, invariant_of, invariants_of, simple_of, line_of, lines_of, clause_of, contract_of, param_of, next_of, params_of, result_of, head_of, predicate_of, field_of, item_of, use_of, text_of}
 use Rattle.c0_print.specs.Erased.{erased_type, erased_name, erased, all_erased, erased_formula, erased_note, erased_invariant, erased_invariants, erased_value, erased_simple, erased_stmt, erased_stmts, erased_clause, erased_contract, erased_param, erased_field, erased_result, erased_head, erased_predicate, erased_item, erased_program}
 use Rattle.c0_print.proofs.Trees.{type_again, expr_again, args_again, formula_again}
 

@@ -6,8 +6,8 @@ use Rattle.std.proofs.lemmas.Bool.{and_parts, eqb-true}
 use Rattle.std.proofs.lemmas.Bool.Decides.{nat_tests}
 use Rattle.c0_lex.specs.Bytes.{is_printable, is_quote, is_backslash}
 use Rattle.c0_lex.specs.Words.{Character, plain, escape, IsCharacter, AreCharacters, spelled_string, character_values, quoted, unescaped, QuotedMeans}
-use Rattle.c0_print.specs.Lists.{all_text}
-use Rattle.c0_print.specs.Literals.{escape_letter, escaped, character_text, string_text}
+use Rattle.c0_layout.specs.Lists.{all_text}
+use Rattle.c0_layout.specs.Literals.{escape_letter, escaped, character_text, string_text}
 use Rattle.c0_print.proofs.Legible.{is_content, IsContent}
 
 abbrev pub character : ℕ → Option ℕ → Character

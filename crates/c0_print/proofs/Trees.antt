@@ -10,7 +10,8 @@ use Rattle.parsed_tree.specs.declared.items.Library.{Library}
 use Rattle.parsed_tree.specs.Tree.{ExprTree, number, truth, null, local, outcome, unary, binary, choose, arrow, call, call_text, alloc, acc, ExprTrees, no_exprs, expr_and, spot_of, from, FormulaTree, InstanceTree, NoteForm, assert_note, fold_note, unfold_note, NoteTree, InvariantTree, InvariantsTree, SimpleTree, declare, assign, stepped, plain, StmtTree, simple_stmt, block_stmt, if_stmt, while_stmt, for_stmt, return_stmt, assert_stmt, error_stmt, notes_stmt, StmtTrees, no_stmts, stmt_and, ClauseTree, ContractTree, PredicateTree, ItemTree, ProgramTree}
 use Rattle.c0_grammar.specs.Allowed.{rank, ranks}
 use Rattle.c0_grammar.specs.Written.{TypeText, type_tree, named_at, joined, chosen, pointed, Written, tree_of, args_trees, more_trees, FormulaText, formula_tree, unknown, unknown_and, known, Args}
-use Rattle.c0_print.specs.Printing.{nowhere, nowheres, base_of, type_of, rounded, is_wide, closed, is_no_primary, based, written, args_of, more_of, formula_of}
+use Rattle.c0_layout.specs.Rounding.{nowhere, rounded, is_wide, closed, is_no_primary, based}
+use Rattle.c0_print.specs.Printing.{nowheres, base_of, type_of, written, args_of, more_of, formula_of}
 use Rattle.c0_print.specs.Erased.{no_spot, erased_name, erased_base, erased_type, erased, all_erased, erased_formula}
 
 pub stars_many : (n : ℕ) → length (nowheres n) ≡ n

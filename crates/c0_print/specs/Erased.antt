@@ -14,7 +14,7 @@ use Rattle.parsed_tree.specs.declared.items.ResultType.TheVariants as result
 use Rattle.parsed_tree.specs.declared.items.Head.{Head}
 use Rattle.parsed_tree.specs.Tree.{ExprTree, number, truth, null, local, outcome, unary, binary, choose, arrow, call, call_text, alloc, acc, ExprTrees, no_exprs, expr_and, FormulaTree, InstanceTree, NoteForm, assert_note, fold_note, unfold_note, NoteTree, InvariantTree, InvariantsTree, SimpleTree, declare, assign, stepped, plain, StmtTree, simple_stmt, block_stmt, if_stmt, while_stmt, for_stmt, return_stmt, assert_stmt, error_stmt, notes_stmt, StmtTrees, no_stmts, stmt_and, ClauseTree, ContractTree, PredicateTree, ItemTree, struct_name, struct_item, typedef_item, prototype_item, function_item, predicates_item, ProgramTree}
 use Rattle.c0_grammar.specs.Texts.{tree_option}
-use Rattle.c0_print.specs.Printing.{nowhere}
+use Rattle.c0_layout.specs.Rounding.{nowhere}
 
 abbrev pub no_spot : Spot
 no_spot = record { place = nowhere; first = nowhere }
@@ -88,7 +88,8 @@ abbrev mutual
   erased_stmt (simple_stmt s) = simple_stmt (erased_simple s)
   erased_stmt (block_stmt p ss) = block_stmt nowhere (erased_stmts ss)
   erased_stmt (if_stmt p e s os) = if_stmt nowhere (erased e) (erased_stmt s) (erased_stmts os)
-  erased_stmt (while_stmt p e is s) = while_stmt nowhere (erased e) (map erased_invariants is) (erased_stmt s)
+  erased_stmt (while_stmt p e is s) =
+      while_stmt nowhere (erased e) (map erased_invariants is) (erased_stmt s)
   erased_stmt (for_stmt p a e b is s) = for_stmt nowhere (tree_option erased_simple a) (erased e) (tree_option erased_simple b) (map erased_invariants is) (erased_stmt s)
   erased_stmt (return_stmt p e) = return_stmt nowhere (tree_option erased e)
   erased_stmt (assert_stmt p e) = assert_stmt nowhere (erased e)
@@ -126,7 +127,8 @@ erased_item (struct_name p n) = struct_name nowhere (erased_name n)
 erased_item (struct_item p n fs) = struct_item nowhere (erased_name n) (map erased_field fs)
 erased_item (typedef_item p t n) = typedef_item nowhere (erased_type t) (erased_name n)
 erased_item (prototype_item h cs) = prototype_item (erased_head h) (map erased_contract cs)
-erased_item (function_item h cs ss e) = function_item (erased_head h) (map erased_contract cs) (erased_stmts ss) nowhere
+erased_item (function_item h cs ss e) =
+    function_item (erased_head h) (map erased_contract cs) (erased_stmts ss) nowhere
 erased_item (predicates_item p ps) = predicates_item nowhere (map erased_predicate ps)
 
 abbrev pub erased_program : ProgramTree → ProgramTree

@@ -8,9 +8,10 @@ use Rattle.parsed_tree.specs.declared.expressions.UnaryOperator.TheVariants as u
 use Rattle.parsed_tree.specs.declared.expressions.Operator.TheVariants as op
 use Rattle.parsed_tree.specs.declared.items.ResultType.TheVariants as result
 use Rattle.parsed_tree.specs.Tree.{ExprTree, truth, null, local, unary, binary, choose, arrow, call, acc, no_exprs, expr_and, simple_stmt, assign, block_stmt, if_stmt, while_stmt, return_stmt, no_stmts, stmt_and, function_item, predicates_item}
-use Rattle.c0_print.specs.Literals.{literal_text}
-use Rattle.c0_print.specs.Layout.{expr_text, line_text, item_text}
-use Rattle.c0_print.specs.Printing.{nowhere, written, line_of, item_of, printed}
+use Rattle.c0_layout.specs.Literals.{literal_text}
+use Rattle.c0_layout.specs.Layout.{expr_text, line_text, item_text}
+use Rattle.c0_layout.specs.Rounding.{nowhere}
+use Rattle.c0_print.specs.Printing.{written, line_of, item_of, printed}
 use Rattle.c0_print.specs.Erased.{no_spot}
 
 abbrev named : List ℕ → Named

@@ -1,8 +1,5 @@
-pub mod Lists
-pub mod Literals
-pub mod Layout
+-- The definitions of this crate.
 pub mod Printing
-pub mod Numbered
 pub mod Erased
 pub mod Laws
 pub mod Examples

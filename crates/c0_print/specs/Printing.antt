@@ -1,5 +1,5 @@
 -- How a tree is written: with parentheses where precedence needs them, and no place of its own.
-use Rattle.std.specs.Prelude.{ℕ, zero, suc, ◌+◌, nat_le, Bool, true, false, List, [], ◌∷◌, ◌++◌, map, Option, Some, None, codes, if◌then◌else◌}
+use Rattle.std.specs.Prelude.{ℕ, zero, suc, ◌+◌, Bool, true, false, List, [], ◌∷◌, ◌++◌, map, Option, Some, None, codes}
 use Rattle.gc0_base.specs.declared.place.Place.{Place}
 use Rattle.parsed_tree.specs.declared.expressions.Named.{Named}
 use Rattle.parsed_tree.specs.declared.expressions.Base.{Base}
@@ -13,14 +13,11 @@ use Rattle.parsed_tree.specs.declared.items.ResultType.{ResultType}
 use Rattle.parsed_tree.specs.declared.items.ResultType.TheVariants as result
 use Rattle.parsed_tree.specs.declared.items.Head.{Head}
 use Rattle.parsed_tree.specs.Tree.{ExprTree, number, truth, null, local, outcome, unary, binary, choose, arrow, call, call_text, alloc, acc, ExprTrees, no_exprs, expr_and, FormulaTree, InstanceTree, NoteForm, assert_note, fold_note, unfold_note, NoteTree, InvariantTree, InvariantsTree, SimpleTree, declare, assign, stepped, plain, StmtTree, simple_stmt, block_stmt, if_stmt, while_stmt, for_stmt, return_stmt, assert_stmt, error_stmt, notes_stmt, StmtTrees, no_stmts, stmt_and, ClauseTree, ContractTree, PredicateTree, ItemTree, struct_name, struct_item, typedef_item, prototype_item, function_item, predicates_item, ProgramTree}
-use Rattle.c0_grammar.specs.Written.{BaseText, int_word, bool_word, struct_word, alias_word, TypeText, Written, digits, truth_token, null_token, word, result_word, before, between, choice, round, called, called_text, allocated, arrow_to, permission, Args, no_args, some_args, More, no_more, more_and, FormulaText, unknown, unknown_and, known}
-use Rattle.c0_grammar.specs.Allowed.{rank, ranks, height, is_primary}
+use Rattle.c0_grammar.specs.Written.{BaseText, int_word, bool_word, struct_word, alias_word, TypeText, Written, digits, truth_token, null_token, word, result_word, before, between, choice, called, called_text, allocated, arrow_to, permission, Args, no_args, some_args, More, no_more, more_and, FormulaText, unknown, unknown_and, known}
+use Rattle.c0_grammar.specs.Allowed.{rank, ranks}
 use Rattle.c0_grammar.specs.Texts.{NoteText, asserts_note, folds_note, unfolds_note, InvariantText, InvariantsText, SimpleText, declares, declares_as, assigns, steps, evaluates, Line, simple_line, braces, ifs, ifs_else, whiles, fors, returns, asserts, raises, notes, Lines, no_lines, line_and, ClauseText, ContractText, ParamText, NextParam, Params, no_params, some_params, ResultText, void_word, gives, HeadText, PredicateWritten, FieldText, ItemText, names_struct, defines_struct, defines_type, declares_function, defines_function, defines_predicates, UseText, ProgramText, tree_option}
-use Rattle.c0_print.specs.Layout.{expr_text, line_text, program_text}
-
--- what is printed stands nowhere yet
-abbrev pub nowhere : Place
-nowhere = record { line = 0; column = 0 }
+use Rattle.c0_layout.specs.Layout.{expr_text, line_text, program_text}
+use Rattle.c0_layout.specs.Rounding.{nowhere, closed, based}
 
 abbrev pub nowheres : ℕ → List Place
 nowheres zero = []
@@ -37,32 +34,6 @@ abbrev pub type_of : TypeName → TypeText
 type_of t = record { base = base_of t.base; stars = nowheres t.stars }
 
 -- ---- expressions
-abbrev pub rounded : Bool → Written → Written
-rounded true w = round nowhere w nowhere
-rounded false w = w
-
-abbrev pub open_text : Bool → List ℕ
-open_text true = codes "("
-open_text false = []
-
-abbrev pub close_text : Bool → List ℕ
-close_text true = codes ")"
-close_text false = []
-
--- where nothing may stand that binds less than this
-abbrev pub is_wide : ℕ → Written → Bool
-is_wide most w = if nat_le (height w) most then false else true
-
-abbrev pub closed : ℕ → Written → Written
-closed most w = rounded (is_wide most w) w
-
--- before a `->`
-abbrev pub is_no_primary : Written → Bool
-is_no_primary w = if is_primary w then false else true
-
-abbrev pub based : Written → Written
-based w = rounded (is_no_primary w) w
-
 abbrev mutual
   pub written : ExprTree → Written
   written (number s w) = digits nowhere w
@@ -71,8 +42,10 @@ abbrev mutual
   written (local s n) = word nowhere n
   written (outcome s) = result_word nowhere
   written (unary s o x) = before nowhere o (closed 0 (written x))
-  written (binary s o x y) = between (closed (rank o + 1) (written x)) nowhere o (closed (rank o) (written y))
-  written (choose s x y z) = choice (closed ranks (written x)) nowhere (written y) nowhere (written z)
+  written (binary s o x y) =
+      between (closed (rank o + 1) (written x)) nowhere o (closed (rank o) (written y))
+  written (choose s x y z) =
+      choice (closed ranks (written x)) nowhere (written y) nowhere (written z)
   written (arrow s x n) = arrow_to (based (written x)) nowhere nowhere n.name
   written (call s n xs) = called nowhere n nowhere (args_of xs) nowhere
   written (call_text s n t) = called_text nowhere n nowhere nowhere t.bytes nowhere
@@ -100,8 +73,10 @@ formula_of f = parts_of f.imprecise f.parts
 -- ---- annotations
 abbrev pub form_of : NoteForm → NoteText
 form_of (assert_note f) = asserts_note nowhere (formula_of f) nowhere
-form_of (fold_note i) = folds_note nowhere nowhere i.name.name nowhere (args_of i.arguments) nowhere nowhere
-form_of (unfold_note i) = unfolds_note nowhere nowhere i.name.name nowhere (args_of i.arguments) nowhere nowhere
+form_of (fold_note i) =
+    folds_note nowhere nowhere i.name.name nowhere (args_of i.arguments) nowhere nowhere
+form_of (unfold_note i) =
+    unfolds_note nowhere nowhere i.name.name nowhere (args_of i.arguments) nowhere nowhere
 
 abbrev pub note_of : NoteTree → NoteText
 note_of n = form_of n.form
@@ -125,8 +100,10 @@ abbrev mutual
   line_of (simple_stmt s) = simple_line (simple_of s) nowhere
   line_of (block_stmt p ss) = braces nowhere (lines_of ss) nowhere
   line_of (if_stmt p e s no_stmts) = ifs nowhere nowhere (written e) nowhere (line_of s)
-  line_of (if_stmt p e s (stmt_and m ms)) = ifs_else nowhere nowhere (written e) nowhere (line_of s) nowhere (line_of m)
-  line_of (while_stmt p e is s) = whiles nowhere nowhere (written e) nowhere (map invariants_of is) (line_of s)
+  line_of (if_stmt p e s (stmt_and m ms)) =
+      ifs_else nowhere nowhere (written e) nowhere (line_of s) nowhere (line_of m)
+  line_of (while_stmt p e is s) =
+      whiles nowhere nowhere (written e) nowhere (map invariants_of is) (line_of s)
   line_of (for_stmt p a e b is s) = fors nowhere nowhere (tree_option simple_of a) nowhere (written e) nowhere (tree_option simple_of b) nowhere (map invariants_of is) (line_of s)
   line_of (return_stmt p e) = returns nowhere (tree_option written e) nowhere
   line_of (assert_stmt p e) = asserts nowhere nowhere (written e) nowhere nowhere
@@ -179,10 +156,12 @@ field_of f = record { typed = type_of f.typed; n = nowhere; name = f.name.name; 
 
 abbrev pub item_of : ItemTree → ItemText
 item_of (struct_name p n) = names_struct nowhere nowhere n.name nowhere
-item_of (struct_item p n fs) = defines_struct nowhere nowhere n.name nowhere (map field_of fs) nowhere nowhere
+item_of (struct_item p n fs) =
+    defines_struct nowhere nowhere n.name nowhere (map field_of fs) nowhere nowhere
 item_of (typedef_item p t n) = defines_type nowhere (type_of t) nowhere n.name nowhere
 item_of (prototype_item h cs) = declares_function (head_of h) (map contract_of cs) nowhere
-item_of (function_item h cs ss e) = defines_function (head_of h) (map contract_of cs) nowhere (lines_of ss) nowhere
+item_of (function_item h cs ss e) =
+    defines_function (head_of h) (map contract_of cs) nowhere (lines_of ss) nowhere
 item_of (predicates_item p ps) = defines_predicates nowhere (map predicate_of ps) nowhere
 
 abbrev pub use_of : Library → UseText

@@ -2,13 +2,18 @@
 
 ghost use Rattle.std.specs.Prelude.{◌≡◌, ◌≤◌, ◌+◌, ◌++◌, OnOk};
 ghost use Rattle.parsed_tree.specs.Views.{expr_view, exprs_view};
+ghost use Rattle.c0_grammar.specs.Written.{before, called, arrow_to, permission};
 ghost use Rattle.c0_grammar.specs.Allowed.{height, is_primary};
-ghost use Rattle.c0_print.specs.Layout.{begins_minus, text_call, alloc_text, expr_text, args_text, more_text};
-ghost use Rattle.c0_print.specs.Printing.{type_of, open_text, close_text, is_wide, closed, is_no_primary, based, written, args_of, more_of};
+ghost use Rattle.c0_layout.specs.Layout.{begins_minus, alloc_text, expr_text, args_text, more_text};
+ghost use Rattle.c0_print.specs.Printing.{type_of, written, args_of, more_of};
+ghost use Rattle.c0_layout.specs.Rounding.{nowhere, is_wide, closed, is_no_primary, based};
 
-use crate::operators::{is_minus, operator_bytes, push_gap, rank_of, unary_bytes};
-use crate::words::{push, push_literal, push_string, push_type, truth_bytes};
-use parsed_tree::{Expr, TypeName};
+use crate::types::push_type;
+use c0_layout::{
+    is_minus, operator_bytes, push, push_close, push_gap, push_literal, push_open, push_text_call,
+    rank_of, truth_bytes, unary_bytes,
+};
+use parsed_tree::{Expr, TypeName, UnaryOperator};
 use sqlite_items::Boxed;
 use std::alloc::AllocError;
 
@@ -82,32 +87,6 @@ fn begins_minus(e: &Expr) -> bool
     }
 }
 
-pub(crate) fn push_open(text: &mut Vec<u8>, rounded: bool) -> Result<(), AllocError>
-    ensures { OnOk result (text.new.items ≡ text.old.items ++ open_text rounded) }
-{
-    if rounded { push(text, b"(") } else { Ok(()) }
-}
-
-pub(crate) fn push_close(text: &mut Vec<u8>, rounded: bool) -> Result<(), AllocError>
-    ensures { OnOk result (text.new.items ≡ text.old.items ++ close_text rounded) }
-{
-    if rounded { push(text, b")") } else { Ok(()) }
-}
-
-/// A call with a string literal.
-pub(crate) fn push_text_call(
-    text: &mut Vec<u8>,
-    name: &[u8],
-    bytes: &[u8],
-) -> Result<(), AllocError>
-    ensures { OnOk result (text.new.items ≡ text.old.items ++ text_call name.now bytes.now) }
-{
-    push(text, name)?;
-    push(text, b"(")?;
-    push_string(text, bytes)?;
-    push(text, b")")
-}
-
 fn push_alloc(text: &mut Vec<u8>, typed: &TypeName) -> Result<(), AllocError>
     ensures { OnOk result (text.new.items ≡ text.old.items ++ alloc_text (type_of typed.now)) }
 {
@@ -127,11 +106,7 @@ pub(crate) fn push_expr(text: &mut Vec<u8>, e: &Expr) -> Result<(), AllocError>
         Expr::Null(_) => push(text, b"NULL"),
         Expr::Local(_, name) => push(text, name.as_slice()),
         Expr::Outcome(_) => push(text, b"\\result"),
-        Expr::Unary(_, operator, x) => {
-            push(text, unary_bytes(*operator))?;
-            push_gap(text, *operator, begins_minus(x.get()))?;
-            push_closed(text, 0, x)
-        }
+        Expr::Unary(_, operator, x) => push_unary(text, *operator, x),
         Expr::Binary(_, operator, x, y) => {
             push_closed(text, rank_of(*operator) + 1, x)?;
             push(text, operator_bytes(*operator))?;
@@ -144,33 +119,64 @@ pub(crate) fn push_expr(text: &mut Vec<u8>, e: &Expr) -> Result<(), AllocError>
             push(text, b" : ")?;
             push_expr(text, z.get())
         }
-        Expr::Arrow(_, x, field) => {
-            push_based(text, x)?;
-            push(text, b"->")?;
-            push(text, field.name.as_slice())
-        }
+        Expr::Arrow(_, x, field) => push_arrow(text, x, field.name.as_slice()),
         Expr::Call(_, name, arguments) => {
-            push(text, name.as_slice())?;
-            push(text, b"(")?;
-            push_args(text, arguments.as_slice())?;
-            push(text, b")")
-        }
+            push_call(text, name.as_slice(), arguments.as_slice())
+        },
         Expr::CallText(_, name, literal) => {
             push_text_call(text, name.as_slice(), literal.bytes.as_slice())
         },
         Expr::Alloc(_, typed) => push_alloc(text, typed),
-        Expr::Acc(_, x, _, field) => {
-            push(text, b"acc(")?;
-            push_expr(text, x.get())?;
-            push(text, b"->")?;
-            push(text, field.name.as_slice())?;
-            push(text, b")")
-        }
+        Expr::Acc(_, x, _, field) => push_acc(text, x, field.name.as_slice()),
     }
 }
 
+// An operator before its operand.
+#[cycle(expression)]
+fn push_unary(
+    text: &mut Vec<u8>,
+    operator: UnaryOperator,
+    x: &Boxed<Expr>,
+) -> Result<(), AllocError>
+    ensures { OnOk result (text.new.items ≡ text.old.items ++ expr_text (before nowhere operator (closed 0 (written (expr_view x.now))))) }
+{
+    push(text, unary_bytes(operator))?;
+    push_gap(text, operator, begins_minus(x.get()))?;
+    push_closed(text, 0, x)
+}
+
+#[cycle(expression)]
+fn push_arrow(text: &mut Vec<u8>, x: &Boxed<Expr>, field: &[u8]) -> Result<(), AllocError>
+    ensures { OnOk result (text.new.items ≡ text.old.items ++ expr_text (arrow_to (based (written (expr_view x.now))) nowhere nowhere field.now)) }
+{
+    push_based(text, x)?;
+    push(text, b"->")?;
+    push(text, field)
+}
+
+#[cycle(expression)]
+fn push_call(text: &mut Vec<u8>, name: &[u8], arguments: &[Expr]) -> Result<(), AllocError>
+    ensures { OnOk result (text.new.items ≡ text.old.items ++ expr_text (called nowhere name.now nowhere (args_of (exprs_view arguments.now)) nowhere)) }
+{
+    push(text, name)?;
+    push(text, b"(")?;
+    push_args(text, arguments)?;
+    push(text, b")")
+}
+
+#[cycle(expression)]
+fn push_acc(text: &mut Vec<u8>, x: &Boxed<Expr>, field: &[u8]) -> Result<(), AllocError>
+    ensures { OnOk result (text.new.items ≡ text.old.items ++ expr_text (permission nowhere nowhere (written (expr_view x.now)) nowhere nowhere field.now nowhere)) }
+{
+    push(text, b"acc(")?;
+    push_expr(text, x.get())?;
+    push(text, b"->")?;
+    push(text, field)?;
+    push(text, b")")
+}
+
 // In parentheses where it binds less than may stand there.
-#[tactic(auto, using(crate::proofs::Joins::rounded_text))]
+#[tactic(auto, using(c0_layout::specs::Rounding::rounded_text))]
 #[cycle(expression)]
 fn push_closed(text: &mut Vec<u8>, most: u32, part: &Boxed<Expr>) -> Result<(), AllocError>
     ensures { OnOk result (text.new.items ≡ text.old.items ++ expr_text (closed most (written (expr_view part.now)))) }
@@ -182,7 +188,7 @@ fn push_closed(text: &mut Vec<u8>, most: u32, part: &Boxed<Expr>) -> Result<(), 
 }
 
 // In parentheses where it may not stand before a `->`.
-#[tactic(auto, using(crate::proofs::Joins::rounded_text))]
+#[tactic(auto, using(c0_layout::specs::Rounding::rounded_text))]
 #[cycle(expression)]
 fn push_based(text: &mut Vec<u8>, part: &Boxed<Expr>) -> Result<(), AllocError>
     ensures { OnOk result (text.new.items ≡ text.old.items ++ expr_text (based (written (expr_view part.now)))) }
@@ -194,7 +200,7 @@ fn push_based(text: &mut Vec<u8>, part: &Boxed<Expr>) -> Result<(), AllocError>
 }
 
 /// Arguments, joined by `, `.
-#[tactic(auto, using(crate::proofs::Behind::behind_comma, crate::proofs::Behind::args_behind))]
+#[tactic(auto, using(c0_layout::specs::Behind::behind_comma, crate::proofs::Behind::args_behind))]
 #[cycle(expression)]
 pub(crate) fn push_args(text: &mut Vec<u8>, arguments: &[Expr]) -> Result<(), AllocError>
     ensures { OnOk result (text.new.items ≡ text.old.items ++ args_text (args_of (exprs_view arguments.now))) }

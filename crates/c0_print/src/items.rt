@@ -4,15 +4,16 @@ ghost use Rattle.std.specs.Prelude.{◌≡◌, ◌++◌, map, OnOk, IfOk};
 ghost use Rattle.c0_lex.specs.Words.{keyword_bytes};
 ghost use Rattle.c0_grammar.specs.Texts.{side_word};
 ghost use Rattle.parsed_tree.specs.Views.{expr_view, clause_view, contract_view, predicate_view, item_view, stmts_view, program_view};
-ghost use Rattle.c0_print.specs.Lists.{all_text, spaced_text, joined_text};
-ghost use Rattle.c0_print.specs.Layout.{annotation_text, clause_text, contract_text, param_text, next_text, params_text, result_text, signature_text, head_text, predicate_text, field_text, prototype_text, struct_name_text, struct_text, typedef_text, function_text, item_text, use_text};
+ghost use Rattle.c0_layout.specs.Lists.{all_text, spaced_text, joined_text};
+ghost use Rattle.c0_layout.specs.Layout.{annotation_text, clause_text, contract_text, param_text, next_text, params_text, result_text, signature_text, head_text, predicate_text, field_text, prototype_text, struct_name_text, struct_text, typedef_text, function_text, item_text, use_text};
 ghost use Rattle.c0_print.specs.Laws.{AreReadBack};
 ghost use Rattle.c0_print.specs.Printing.{type_of, clause_of, contract_of, param_of, next_of, params_of, result_of, head_of, predicate_of, field_of, item_of, use_of, lines_of, printed};
 
 use crate::expressions::push_expr;
 use crate::lexing::reads_back;
 use crate::statements::{push_formula, push_stmts};
-use crate::words::{push, push_type, push_typed};
+use crate::types::{push_type, push_typed};
+use c0_layout::push;
 use parsed_tree::{
     Clause, Contract, Field, Head, Item, Library, Named, Param, Parsed, PredicateText, ResultType,
     Side, Stmt, TypeName,

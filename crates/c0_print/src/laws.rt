@@ -1,3 +1,5 @@
+//! What is written for the tree of a text.
+
 ghost use Rattle.c0_print.specs.Laws.{WritesTree, WritesGood, WritesNoDeeper, WritesAgain, ReadsAnywhere};
 
 /// What is written for the tree of a text is that tree, places aside.

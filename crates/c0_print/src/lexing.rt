@@ -1,3 +1,5 @@
+//! What is printed has tokens, and is read again.
+
 ghost use Rattle.c0_print.specs.Laws.{PrintsTokens, ReadsBack};
 
 use c0_lex::quoted_means;

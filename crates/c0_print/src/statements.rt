@@ -4,13 +4,13 @@ ghost use Rattle.std.specs.Prelude.{◌≡◌, ◌++◌, map, OnOk, codes};
 ghost use Rattle.std.specs.Option.{option_map};
 ghost use Rattle.parsed_tree.specs.Views.{expr_view, formula_view, instance_view, note_view, invariant_view, invariants_view, value_view, simple_view, stmt_view, stmts_view, stmts_in};
 ghost use Rattle.c0_grammar.specs.Texts.{tree_option};
-ghost use Rattle.c0_print.specs.Lists.{all_text, spaced_text, joined_text, option_text};
-ghost use Rattle.c0_print.specs.Layout.{formula_text, instance_text, note_text, invariant_text, invariants_text, annotation_text, simple_text, value_text, test_text, for_text, return_text, assert_text, error_text, line_text, lines_text};
+ghost use Rattle.c0_layout.specs.Lists.{all_text, spaced_text, joined_text, option_text};
+ghost use Rattle.c0_layout.specs.Layout.{formula_text, instance_text, note_text, invariant_text, invariants_text, annotation_text, simple_text, value_text, test_text, for_text, return_text, assert_text, error_text, line_text, lines_text};
 ghost use Rattle.c0_print.specs.Printing.{written, args_of, formula_of, note_of, invariant_of, invariants_of, simple_of, initial_text, line_of, lines_of, else_text};
 
 use crate::expressions::{push_args, push_expr};
-use crate::operators::{step_bytes, update_bytes};
-use crate::words::{push, push_string, push_typed};
+use crate::types::push_typed;
+use c0_layout::{push, push_string, step_bytes, update_bytes};
 use gc0_base::Place;
 use parsed_tree::{
     Expr, Formula, Instance, Invariant, Invariants, Note, NoteForm, Simple, Stmt, Text, TypeName,
@@ -196,12 +196,12 @@ fn push_simple_line(text: &mut Vec<u8>, simple: &Simple) -> Result<(), AllocErro
 }
 
 // A part of a `for`.
-fn push_part(text: &mut Vec<u8>, part: &Option<Simple>) -> Result<(), AllocError>
+fn push_part(text: &mut Vec<u8>, part: &Option<Boxed<Simple>>) -> Result<(), AllocError>
     ensures { OnOk result (text.new.items ≡ text.old.items ++ option_text simple_text (tree_option simple_of (option_map simple_view part.now))) }
 {
     match part {
         None => Ok(()),
-        Some(simple) => push_simple(text, simple),
+        Some(simple) => push_simple(text, simple.get()),
     }
 }
 
@@ -217,9 +217,9 @@ fn push_test(text: &mut Vec<u8>, word: &[u8], test: &Expr) -> Result<(), AllocEr
 
 fn push_for(
     text: &mut Vec<u8>,
-    first: &Option<Simple>,
+    first: &Option<Boxed<Simple>>,
     test: &Expr,
-    last: &Option<Simple>,
+    last: &Option<Boxed<Simple>>,
 ) -> Result<(), AllocError>
     ensures { OnOk result (text.new.items ≡ text.old.items ++ for_text (tree_option simple_of (option_map simple_view first.now)) (written (expr_view test.now)) (tree_option simple_of (option_map simple_view last.now))) }
 {

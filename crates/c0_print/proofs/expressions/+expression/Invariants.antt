@@ -1,8 +1,9 @@
+-- What holds at the loops of the cycle `expression`.
 use Rattle.std.proofs.Common.{◌≡◌, ◌++◌, drop}
 use Rattle.parsed_tree.specs.Views.{exprs_view}
-use Rattle.c0_print.specs.Layout.{args_text}
+use Rattle.c0_layout.specs.Layout.{args_text}
 use Rattle.c0_print.specs.Printing.{args_of, more_of}
-use Rattle.c0_print.proofs.Behind.{behind}
+use Rattle.c0_layout.specs.Behind.{behind}
 use Rattle.c0_print.proofs.expressions.+expression.Given as goal
 
 abbrev pub invariant-push_args-loop-e : goal.invariant-push_args-loop-e

@@ -1,3 +1,4 @@
+-- What is answered by hand of the proof of `print_program`.
 use Rattle.parsed_tree.specs.Views.{program_view}
 use Rattle.c0_print.proofs.ReadBack.{bytes_read_back}
 use Rattle.c0_print.proofs.items.print_program.Goals as goal

@@ -1,7 +1,8 @@
+-- What holds at the loop of `push_contracts`.
 use Rattle.std.proofs.Common.{◌≡◌, ◌++◌, map, drop}
-use Rattle.c0_print.specs.Lists.{all_text}
+use Rattle.c0_layout.specs.Lists.{all_text}
 use Rattle.parsed_tree.specs.Views.{contract_view}
-use Rattle.c0_print.specs.Layout.{contract_text}
+use Rattle.c0_layout.specs.Layout.{contract_text}
 use Rattle.c0_print.specs.Printing.{contract_of}
 use Rattle.c0_print.proofs.items.push_contracts.Given as goal
 

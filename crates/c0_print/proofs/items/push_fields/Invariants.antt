@@ -1,6 +1,7 @@
+-- What holds at the loop of `push_fields`.
 use Rattle.std.proofs.Common.{◌≡◌, ◌++◌, map, drop}
-use Rattle.c0_print.specs.Lists.{all_text}
-use Rattle.c0_print.specs.Layout.{field_text}
+use Rattle.c0_layout.specs.Lists.{all_text}
+use Rattle.c0_layout.specs.Layout.{field_text}
 use Rattle.c0_print.specs.Printing.{field_of}
 use Rattle.c0_print.proofs.items.push_fields.Given as goal
 

@@ -1,7 +1,8 @@
+-- What holds at the loop of `push_more_clauses`.
 use Rattle.std.proofs.Common.{◌≡◌, ◌++◌, map, drop}
-use Rattle.c0_print.specs.Lists.{spaced_text}
+use Rattle.c0_layout.specs.Lists.{spaced_text}
 use Rattle.parsed_tree.specs.Views.{clause_view}
-use Rattle.c0_print.specs.Layout.{clause_text}
+use Rattle.c0_layout.specs.Layout.{clause_text}
 use Rattle.c0_print.specs.Printing.{clause_of}
 use Rattle.c0_print.proofs.items.push_more_clauses.Given as goal
 

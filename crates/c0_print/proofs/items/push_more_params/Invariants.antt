@@ -1,6 +1,7 @@
+-- What holds at the loop of `push_more_params`.
 use Rattle.std.proofs.Common.{◌≡◌, ◌++◌, map, drop}
-use Rattle.c0_print.specs.Lists.{all_text}
-use Rattle.c0_print.specs.Layout.{next_text}
+use Rattle.c0_layout.specs.Lists.{all_text}
+use Rattle.c0_layout.specs.Layout.{next_text}
 use Rattle.c0_print.specs.Printing.{next_of}
 use Rattle.c0_print.proofs.items.push_more_params.Given as goal
 

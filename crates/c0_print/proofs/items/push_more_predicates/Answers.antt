@@ -1,7 +1,8 @@
+-- What is answered by hand of the proof of `push_more_predicates`.
 use Rattle.std.proofs.Common.{◌≡◌, ◌++◌, rules, arith}
 use Rattle.std.specs.Prelude.{codes}
 use Rattle.parsed_tree.specs.Views.{predicate_view}
-use Rattle.c0_print.specs.Layout.{predicate_text}
+use Rattle.c0_layout.specs.Layout.{predicate_text}
 use Rattle.c0_print.specs.Printing.{predicate_of}
 use Rattle.c0_print.proofs.Spaced.{spaced_step}
 use Rattle.c0_print.proofs.items.push_more_predicates.Goals as goal

@@ -1,7 +1,8 @@
+-- What holds at the loop of `push_more_predicates`.
 use Rattle.std.proofs.Common.{◌≡◌, ◌++◌, map, drop}
-use Rattle.c0_print.specs.Lists.{spaced_text}
+use Rattle.c0_layout.specs.Lists.{spaced_text}
 use Rattle.parsed_tree.specs.Views.{predicate_view}
-use Rattle.c0_print.specs.Layout.{predicate_text}
+use Rattle.c0_layout.specs.Layout.{predicate_text}
 use Rattle.c0_print.specs.Printing.{predicate_of}
 use Rattle.c0_print.proofs.items.push_more_predicates.Given as goal
 

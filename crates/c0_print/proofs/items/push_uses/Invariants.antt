@@ -1,6 +1,7 @@
+-- What holds at the loop of `push_uses`.
 use Rattle.std.proofs.Common.{◌≡◌, ◌++◌, map, drop}
-use Rattle.c0_print.specs.Lists.{all_text}
-use Rattle.c0_print.specs.Layout.{use_text}
+use Rattle.c0_layout.specs.Lists.{all_text}
+use Rattle.c0_layout.specs.Layout.{use_text}
 use Rattle.c0_print.specs.Printing.{use_of}
 use Rattle.c0_print.proofs.items.push_uses.Given as goal
 

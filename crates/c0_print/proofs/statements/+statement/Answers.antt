@@ -1,3 +1,4 @@
+-- What is answered by hand of the proofs of the cycle `statement`.
 use Rattle.std.proofs.Common.{◌≡◌, ℕ, List, ◌++◌, map, sym, ap, ◌∙◌, rules}
 use Rattle.std.specs.Prelude.{codes}
 use Rattle.std.specs.Option.{option_map}
@@ -6,8 +7,8 @@ use Rattle.parsed_tree.specs.declared.statements.Stmt.TheFolds.{fold_out-Stmt}
 use Rattle.parsed_tree.specs.Tree.{StmtTree, StmtTrees, if_stmt, while_stmt, for_stmt}
 use Rattle.parsed_tree.specs.Views.{expr_view, simple_view, invariants_view, stmt_view, stmts_in}
 use Rattle.c0_grammar.specs.Texts.{tree_option}
-use Rattle.c0_print.specs.Lists.{all_text}
-use Rattle.c0_print.specs.Layout.{invariants_text, test_text, for_text, line_text}
+use Rattle.c0_layout.specs.Lists.{all_text}
+use Rattle.c0_layout.specs.Layout.{invariants_text, test_text, for_text, line_text}
 use Rattle.c0_print.specs.Printing.{written, invariants_of, simple_of, line_of, else_text}
 use Rattle.c0_print.proofs.Joins.{else_joined}
 use Rattle.c0_print.proofs.Pushes.{joined_3}

@@ -1,6 +1,7 @@
+-- What holds at the loops of the cycle `statement`.
 use Rattle.std.proofs.Common.{◌≡◌, ◌++◌, drop}
 use Rattle.parsed_tree.specs.Views.{stmts_view}
-use Rattle.c0_print.specs.Layout.{lines_text}
+use Rattle.c0_layout.specs.Layout.{lines_text}
 use Rattle.c0_print.specs.Printing.{lines_of}
 use Rattle.c0_print.proofs.statements.+statement.Given as goal
 

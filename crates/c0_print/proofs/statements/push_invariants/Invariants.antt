@@ -1,7 +1,8 @@
+-- What holds at the loop of `push_invariants`.
 use Rattle.std.proofs.Common.{◌≡◌, ◌++◌, map, drop}
-use Rattle.c0_print.specs.Lists.{all_text}
+use Rattle.c0_layout.specs.Lists.{all_text}
 use Rattle.parsed_tree.specs.Views.{invariants_view}
-use Rattle.c0_print.specs.Layout.{invariants_text}
+use Rattle.c0_layout.specs.Layout.{invariants_text}
 use Rattle.c0_print.specs.Printing.{invariants_of}
 use Rattle.c0_print.proofs.statements.push_invariants.Given as goal
 

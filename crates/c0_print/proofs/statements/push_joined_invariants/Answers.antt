@@ -1,7 +1,8 @@
+-- What is answered by hand of the proof of `push_joined_invariants`.
 use Rattle.std.proofs.Common.{◌≡◌, ℕ, ◌-◌, List, ◌++◌, map, length, take, drop, rules}
 use Rattle.parsed_tree.specs.Views.{invariant_view}
-use Rattle.c0_print.specs.Lists.{joined_text, spaced_text}
-use Rattle.c0_print.specs.Layout.{invariant_text}
+use Rattle.c0_layout.specs.Lists.{joined_text, spaced_text}
+use Rattle.c0_layout.specs.Layout.{invariant_text}
 use Rattle.c0_print.specs.Printing.{invariant_of}
 use Rattle.c0_print.proofs.Pushes.{joined_2}
 use Rattle.c0_print.proofs.Spaced.{joined_cons}

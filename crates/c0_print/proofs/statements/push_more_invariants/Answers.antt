@@ -1,7 +1,8 @@
+-- What is answered by hand of the proof of `push_more_invariants`.
 use Rattle.std.proofs.Common.{◌≡◌, ◌++◌, rules, arith}
 use Rattle.std.specs.Prelude.{codes}
 use Rattle.parsed_tree.specs.Views.{invariant_view}
-use Rattle.c0_print.specs.Layout.{invariant_text}
+use Rattle.c0_layout.specs.Layout.{invariant_text}
 use Rattle.c0_print.specs.Printing.{invariant_of}
 use Rattle.c0_print.proofs.Spaced.{spaced_step}
 use Rattle.c0_print.proofs.statements.push_more_invariants.Goals as goal

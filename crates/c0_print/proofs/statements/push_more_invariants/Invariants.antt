@@ -1,7 +1,8 @@
+-- What holds at the loop of `push_more_invariants`.
 use Rattle.std.proofs.Common.{◌≡◌, ◌++◌, map, drop}
-use Rattle.c0_print.specs.Lists.{spaced_text}
+use Rattle.c0_layout.specs.Lists.{spaced_text}
 use Rattle.parsed_tree.specs.Views.{invariant_view}
-use Rattle.c0_print.specs.Layout.{invariant_text}
+use Rattle.c0_layout.specs.Layout.{invariant_text}
 use Rattle.c0_print.specs.Printing.{invariant_of}
 use Rattle.c0_print.proofs.statements.push_more_invariants.Given as goal
 

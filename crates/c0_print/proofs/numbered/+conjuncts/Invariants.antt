@@ -1,7 +1,0 @@
-use Rattle.std.proofs.Common.{◌≡◌, ◌++◌, drop}
-use Rattle.gc0_tree.specs.Views.{conjuncts_view}
-use Rattle.c0_print.specs.Numbered.{parts_text}
-use Rattle.c0_print.proofs.numbered.+conjuncts.Given as goal
-
-abbrev pub invariant-push_parts-loop-conjunct : goal.invariant-push_parts-loop-conjunct
-invariant-push_parts-loop-conjunct l = l.text.items ++ parts_text l.program l.scope l.front (conjuncts_view (drop l.conjunct-index l.conjuncts)) ≡ l.initial.text.items ++ parts_text l.program l.scope l.first_front (conjuncts_view l.conjuncts)

@@ -1,7 +1,0 @@
-use Rattle.std.proofs.Common.{◌≡◌, ◌++◌, drop}
-use Rattle.c0_print.specs.Lists.{all_text}
-use Rattle.c0_print.specs.Literals.{character_text}
-use Rattle.c0_print.proofs.words.push_characters.Given as goal
-
-abbrev pub invariant-loop-byte : goal.invariant-loop-byte
-invariant-loop-byte l = l.text.items ++ all_text character_text (drop l.byte-index l.bytes) ≡ l.initial.text.items ++ all_text character_text l.bytes

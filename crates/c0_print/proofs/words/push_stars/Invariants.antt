@@ -1,8 +1,0 @@
-use Rattle.std.proofs.Common.{◌≡◌, ◌++◌}
-use Rattle.c0_print.specs.Lists.{all_text}
-use Rattle.c0_print.specs.Layout.{star_text}
-use Rattle.c0_print.specs.Printing.{nowheres}
-use Rattle.c0_print.proofs.words.push_stars.Given as goal
-
-abbrev pub invariant-loop : goal.invariant-loop
-invariant-loop l = l.text.items ≡ l.initial.text.items ++ all_text star_text (nowheres l.counter)
