@@ -4,10 +4,11 @@ use Rattle.std.specs.List.{All}
 use Rattle.std.specs.declared.alloc.AllocError.{AllocError}
 use Rattle.std.proofs.lemmas.List.{length-map, get_or-map}
 use Rattle.std.proofs.lemmas.List.Elements.{All-map}
+use Rattle.gc0_base.specs.declared.limits.TheConstants.Limits as limits
 use Rattle.gc0_base.specs.declared.word.Word.{Word}
 use Rattle.sat_check.specs.declared.log.Entry.{Entry}
 use Rattle.sat_check.specs.Clauses.{IsUnsatisfiable}
-use Rattle.sat_search.specs.Searches.{IsRefutedByPropagation, IsSpent as IsSearchSpent}
+use Rattle.search_base.specs.Searches.{IsRefutedByPropagation, IsSpent as IsSearchSpent}
 use Rattle.word_terms.specs.declared.node.Node.{Node}
 use Rattle.word_terms.specs.Terms.{value}
 use Rattle.word_terms.specs.Tables.{Table, IsTable, term}
@@ -78,7 +79,7 @@ module _ (t : Table) (ok : IsTable t) (facts : List ℕ) (claim : ℕ) (is_truth
   ok-justified fit e asked (Ok answer) s = solved-justified fit e asked answer s
   ok-justified fit e asked (Err refused) s = s
 
-pub ok-queried : (t : Table) (facts : List ℕ) (claim asked : ℕ) (whole : Whole) → whole ≡ circuit t facts (claim ∷ []) → question_weight t facts claim ≤ 1000000
+pub ok-queried : (t : Table) (facts : List ℕ) (claim asked : ℕ) (whole : Whole) → whole ≡ circuit t facts (claim ∷ []) → question_weight t facts claim ≤ limits.WEIGHT
     → (result : Result Answer AllocError) → IfOk result (IsSolved asked whole) → IfOk result (IsQueried asked t facts claim)
 ok-queried t facts claim asked whole e small (Ok answer) s = inl (small, subst (λ (w : Whole). IsSolved asked w answer) e s)
 ok-queried t facts claim asked whole e small (Err refused) s = s

@@ -1,3 +1,4 @@
+-- The lemmas of this crate's proofs.
 pub mod Trees
 pub mod Reading
 pub mod Deciding

@@ -1,10 +1,11 @@
 -- When an answer is justified, and lists of questions with their answers.
 use Rattle.std.specs.Prelude.{◌≡◌, ℕ, ◌<◌, ◌^◌, ◌⊎◌, List, [], ◌∷◌, ◌++◌, length, Option}
 use Rattle.std.specs.Option.{option_map}
+use Rattle.gc0_base.specs.declared.limits.TheConstants.Limits as limits
 use Rattle.gc0_base.specs.declared.word.Word.{Word}
 use Rattle.sat_check.specs.declared.log.Entry.{Entry}
 use Rattle.sat_check.specs.Logs.{AllFollow, AllNew}
-use Rattle.sat_search.specs.Searches.{IsRefutedByPropagation}
+use Rattle.search_base.specs.Searches.{IsRefutedByPropagation}
 use Rattle.word_terms.specs.Tables.{Table}
 use Rattle.word_terms.specs.Weights.{weight_of}
 use Rattle.word_blast.specs.Circuits.{Whole, circuit}
@@ -34,7 +35,7 @@ pub record IsSpent (asked : ℕ) (whole : Whole) (entries : List Entry) : Type 0
 -- a cause for which a question is left open
 abbrev pub IsCause : ℕ → Table → List ℕ → ℕ → Cause → Type 0
 IsCause asked table facts claim (Spent log) = IsSpent asked (circuit_of table facts claim) log.entries
-IsCause asked table facts claim (TooLarge weight) = (weight ≡ question_weight table facts claim) × (1000000 < weight)
+IsCause asked table facts claim (TooLarge weight) = (weight ≡ question_weight table facts claim) × (limits.WEIGHT < weight)
 
 -- an answer of a decider whose searches are given so many conflicts
 abbrev pub IsJustified : ℕ → Table → List ℕ → ℕ → Answer → Type 0

@@ -1,3 +1,4 @@
+-- The definitions that the contracts cite.
 pub mod Questions
 pub mod Answers
 pub mod Solving

@@ -1,5 +1,6 @@
 -- What a query gives: this project's own, over the definitions of circuits and logs.
 use Rattle.std.specs.Prelude.{◌≡◌, ℕ, ◌<◌, ◌≤◌, ◌⊎◌, Bool, List, length}
+use Rattle.gc0_base.specs.declared.limits.TheConstants.Limits as limits
 use Rattle.sat_check.specs.declared.clause.Clause.{Clause}
 use Rattle.sat_check.specs.declared.log.Entry.{Entry}
 use Rattle.sat_check.specs.Clauses.{Satisfies, IsUnsatisfiable}
@@ -33,5 +34,5 @@ IsSolved asked whole (Undecided (TooLarge weight)) = ⊥
 -- what a query gives: the answer of a search, or that the question is too large for one
 abbrev pub IsQueried : ℕ → Table → List ℕ → ℕ → Answer → Type 0
 IsQueried asked table facts claim answer =
-    ((question_weight table facts claim ≤ 1000000) × IsSolved asked (circuit_of table facts claim) answer)
-    ⊎ ((1000000 < question_weight table facts claim) × (answer ≡ Undecided (TooLarge (question_weight table facts claim))))
+    ((question_weight table facts claim ≤ limits.WEIGHT) × IsSolved asked (circuit_of table facts claim) answer)
+    ⊎ ((limits.WEIGHT < question_weight table facts claim) × (answer ≡ Undecided (TooLarge (question_weight table facts claim))))

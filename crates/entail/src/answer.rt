@@ -11,6 +11,6 @@ pub enum Answer {
     /// This valuation makes all facts true and the claim false.
     No(Valuation),
     /// The decider doesn't know. The cause is `Spent` with as many entries as its searches are
-    /// given conflicts, or `TooLarge` with a weight above `word_blast::MAX_WEIGHT`.
+    /// given conflicts, or `TooLarge` with a weight above `gc0_base::Limits::WEIGHT`.
     Undecided(Cause),
 }

@@ -1,4 +1,4 @@
-pub mod Lists
+-- The lemmas of this crate's proofs.
 pub mod Soundness
 pub mod Walks
 pub mod Verdicts

@@ -9,7 +9,7 @@ use Rattle.sat_check.specs.declared.clause.Clause.{Clause}
 use Rattle.sat_check.specs.declared.log.Entry.{Entry}
 use Rattle.sat_check.specs.Clauses.{opposite_of, IsTrueUnder, Satisfies}
 use Rattle.sat_check.specs.Logs.{IsUnit, Refutes, Follows, known_at, AllFollow, RefutationIsSound}
-use Rattle.sat_check.proofs.Lists.{not-same, cases_sign, at_within, Contains-here, Contains-there, Contains-cons_cases, Contains-at}
+use Rattle.sat_check.specs.Literals.{not-same, cases_sign, at_within, Contains-here, Contains-there, Contains-cons_cases, Contains-at}
 
 -- no literal of the list is true
 AllUntrue : (ℕ → Bool) → List Lit → Type 0

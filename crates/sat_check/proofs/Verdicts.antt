@@ -12,7 +12,7 @@ use Rattle.sat_check.specs.declared.checker.Verdict.{Verdict}
 use Rattle.sat_check.specs.declared.checker.Verdict.TheVariants.{Refuted, Derived, Fault}
 use Rattle.sat_check.specs.Logs.{AllFollow, Follows, IsFirstFault, IsRefutation, IsDerivation, HasEmpty, known_at}
 use Rattle.sat_check.specs.Marks.{VerdictIs}
-use Rattle.sat_check.proofs.Lists.{at_within}
+use Rattle.sat_check.specs.Literals.{at_within}
 
 -- where so many entries follow, the fault is a later one
 fault_later : (clauses : List Clause) (entries : List Entry) (count index : ℕ) → AllFollow clauses entries count → IsFirstFault clauses entries index → count ≤ index
@@ -59,9 +59,6 @@ AllFollow-more clauses entries index entry before at follows k other h at' =
           subst (λ (n : ℕ). Follows (known_at clauses entries n) other) (sym same) (subst (Follows (known_at clauses entries index)) is follows)
       | inr apart ↦ elim apart [ inl less ↦ before k other less at' | inr more ↦ absurd (omega arith) ]
     ]
-
-pub HasEmpty-push : (entries : List Entry) (entry : Entry) → entry.clause.lits ≡ [] → HasEmpty (entries ++ entry ∷ [])
-HasEmpty-push entries entry h = Any-push (λ (e : Entry). e.clause.lits ≡ []) entries entry h
 
 pub HasEmpty-left : (entries : List Entry) (entry : Entry) → HasEmpty entries → HasEmpty (entries ++ entry ∷ [])
 HasEmpty-left entries entry (k, e, within, at, empty) =

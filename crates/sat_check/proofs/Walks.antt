@@ -14,7 +14,8 @@ use Rattle.sat_check.specs.declared.checker.Found.TheVariants.{Neither}
 use Rattle.sat_check.specs.Clauses.{opposite_of, AreBelow, ClausesAreBelow}
 use Rattle.sat_check.specs.Logs.{HasNoValue, IsUnit, Refutes, EntriesAreBelow, known_before}
 use Rattle.sat_check.specs.Marks.{IsMarked, Shows, FoundIs}
-use Rattle.sat_check.proofs.Lists.{same_lit, not-same, not-not, cases_sign, Contains-here, Contains-there, Contains-cons_cases, Contains-nil, Contains-at, Contains-push_from_cons, Contains-cons_from_push, slice_get-set_same, slice_get-set_other}
+use Rattle.sat_check.specs.Laws.{SoFar}
+use Rattle.sat_check.specs.Literals.{same_lit, not-same, not-not, cases_sign, Contains-here, Contains-there, Contains-cons_cases, Contains-nil, Contains-at, Contains-push_from_cons, Contains-cons_from_push, slice_get-set_same, slice_get-set_other}
 
 -- ---- marks
 
@@ -97,62 +98,8 @@ Shows-again round marks falses lit shows again other below =
 
 -- ---- the literals of a clause, one after another
 
--- of the literals so far all are false, or all but this one
-abbrev pub SoFar : List Lit → List Lit → Option Lit → Type 0
-SoFar falses lits None = All (Contains falses) lits
-SoFar falses lits (Some lit) = IsUnit falses lits lit
-
 pub SoFar-none : (falses : List Lit) → SoFar falses [] None
 SoFar-none falses k d h = absurd (omega arith)
-
-pub SoFar-false : (falses lits : List Lit) (single : Option Lit) (lit : Lit) → SoFar falses lits single → Contains falses lit → SoFar falses (lits ++ lit ∷ []) single
-SoFar-false falses lits None lit h c = All-push (Contains falses) lits lit h c
-SoFar-false falses lits (Some first) lit h c =
-    record {
-      stands = Contains-append_left lits (lit ∷ []) first h.stands;
-      without_value = h.without_value;
-      others = All-push (λ (o : Lit). (o ≡ first) ⊎ Contains falses o) lits lit h.others (inr c);
-    }
-
-pub SoFar-open : (falses lits : List Lit) (single : Option Lit) (lit : Lit) → SoFar falses lits single → HasNoValue falses lit → unwrap_or single lit ≡ lit → SoFar falses (lits ++ lit ∷ []) (Some lit)
-SoFar-open falses lits None lit h open' same =
-    record {
-      stands = Contains-push lits lit;
-      without_value = open';
-      others =
-          All-push (λ (o : Lit). (o ≡ lit) ⊎ Contains falses o) lits lit
-          (All-weaker (Contains falses) (λ (o : Lit). (o ≡ lit) ⊎ Contains falses o) (λ (o : Lit) c. inr c) lits h) (inl refl);
-    }
-SoFar-open falses lits (Some first) lit h open' same =
-    let at_lit = subst (IsUnit falses lits) same h in
-    record {
-      stands = Contains-append_left lits (lit ∷ []) lit at_lit.stands;
-      without_value = open';
-      others = All-push (λ (o : Lit). (o ≡ lit) ⊎ Contains falses o) lits lit at_lit.others (inl refl);
-    }
-
-pub Neither-true :
-    (falses lits : List Lit) (lit : Lit) → (Contains falses lit → ⊥) → Contains lits lit → Contains falses (opposite_of lit) → FoundIs falses lits Neither
-Neither-true falses lits lit not_false stands true' = (
-  λ all. not_false (All-contains (Contains falses) lits lit all stands),
-  λ unit h. elim (All-contains (λ (o : Lit). (o ≡ unit) ⊎ Contains falses o) lits lit h.others stands)
-      [ inl same ↦ h.without_value.not_true (subst (λ (l : Lit). Contains falses (opposite_of l)) same true') | inr c ↦ not_false c ],
-)
-
-pub Neither-two :
-    (falses before lits : List Lit) (single : Option Lit) (lit : Lit) → ((o : Lit) → Contains before o → Contains lits o)
-    → SoFar falses before single → HasNoValue falses lit → (unwrap_or single lit ≡ lit → ⊥) → Contains lits lit → FoundIs falses lits Neither
-Neither-two falses before lits None lit within h open' differ stands = absurd (differ refl)
-Neither-two falses before lits (Some first) lit within h open' differ stands = (
-  λ all. open'.not_false (All-contains (Contains falses) lits lit all stands),
-  λ unit u.
-      let at_lit = All-contains (λ (o : Lit). (o ≡ unit) ⊎ Contains falses o) lits lit u.others stands in
-      let at_first = All-contains (λ (o : Lit). (o ≡ unit) ⊎ Contains falses o) lits first u.others (within first h.stands) in
-      elim at_lit [
-        | inl p ↦ elim at_first [ inl q ↦ differ (q ∙ sym p) | inr c ↦ h.without_value.not_false c ]
-        | inr c ↦ open'.not_false c
-      ],
-)
 
 -- ---- the hints, one after another
 
@@ -203,15 +150,3 @@ Refutes-single known falses hint (next ∷ rest) clause lit at' unit =
     let unit'' = subst (λ (c : Clause). IsUnit falses c.lits lit') (same_clause known hint other clause at at') unit' in
     subst (λ (l : Lit). Refutes known (opposite_of l ∷ falses) (next ∷ rest)) (unit_once falses clause.lits lit' lit unit'' unit) then in
     (to, λ then. (clause, lit, at', unit, then))
-
--- what is known is below, where the clauses and the entries are
-pub known_below :
-    (variables : ℕ) (clauses : List Clause) (earlier : List Entry)
-    → ClausesAreBelow variables clauses → EntriesAreBelow variables earlier → ClausesAreBelow variables (known_before clauses earlier)
-known_below variables clauses earlier h e =
-    let clause_of : Entry → Clause = λ entry. entry.clause in
-    All-append (λ (c : Clause). AreBelow variables c.lits) clauses (map clause_of earlier) h
-    (All-map (λ (c : Clause). AreBelow variables c.lits) clause_of earlier e)
-
-pub below_at : (variables : ℕ) (known : List Clause) (hint : ℕ) (clause : Clause) → ClausesAreBelow variables known → slice_get known hint ≡ Some clause → AreBelow variables clause.lits
-below_at variables known hint clause h at = All-contains (λ (c : Clause). AreBelow variables c.lits) known clause h (Contains-at known hint clause at)

@@ -6,10 +6,10 @@ use Rattle.std.proofs.lemmas.Bool.{cases_order, false≢true}
 use Rattle.std.proofs.lemmas.Option.{same_Some, none-some, slice_get_within}
 use Rattle.sat_check.specs.declared.clause.Lit.{Lit}
 use Rattle.sat_check.specs.declared.clause.Clause.{Clause}
-use Rattle.sat_search.specs.declared.trail.Step.{Step}
-use Rattle.sat_search.specs.PlainAnalysis as plain
+use Rattle.search_base.specs.declared.trail.Step.{Step}
+use Rattle.search_base.specs.Replacing as plain
 use Rattle.sat_search.specs.Learning.{Learns, IsBase, IsFalseAt}
-use Rattle.sat_search.proofs.Refuting.{no_some}
+use Rattle.search_base.specs.Refuting.{no_some}
 
 -- the decision of the last level is the asserting literal, if the clause has it
 pub Learns-some :

@@ -11,28 +11,29 @@ use Rattle.sat_check.specs.declared.clause.Clause.{Clause}
 use Rattle.sat_check.specs.declared.log.Entry.{Entry}
 use Rattle.sat_check.specs.Clauses.{opposite_of}
 use Rattle.sat_check.specs.Logs.{known_before, IsUnit, IsNew}
-use Rattle.sat_search.specs.declared.trail.Slot.{Slot}
-use Rattle.sat_search.specs.declared.trail.Step.{Step}
-use Rattle.sat_search.specs.declared.placed.PlacedTrail.{PlacedTrail}
-use Rattle.sat_search.specs.declared.watches.Pair.{Pair}
-use Rattle.sat_search.specs.declared.watches.Watches.{Watches}
-use Rattle.sat_search.specs.declared.shelf.Shelf.{Shelf}
+use Rattle.search_base.specs.declared.trail.Slot.{Slot}
+use Rattle.search_base.specs.declared.trail.Step.{Step}
+use Rattle.search_state.specs.declared.placed.PlacedTrail.{PlacedTrail}
+use Rattle.search_state.specs.declared.watches.Pair.{Pair}
+use Rattle.search_state.specs.declared.watches.Watches.{Watches}
+use Rattle.search_state.specs.declared.shelf.Shelf.{Shelf}
 use Rattle.sat_search.specs.declared.solver.Solver.{Solver}
-use Rattle.sat_search.specs.Trails.{falses_of, IsStep, AllStuck}
-use Rattle.sat_search.specs.Propagation.{Extends}
-use Rattle.sat_search.specs.Watches.{IsTrail, AreWatched, WatchesMore, HasTrue, IsFree, Guards, AllGuarded, Within, flags_of, Advances}
+use Rattle.search_base.specs.Trails.{falses_of, IsStep, AllStuck}
+use Rattle.search_base.specs.Propagation.{Extends}
+use Rattle.search_state.specs.Watches.{IsTrail, AreWatched, WatchesMore, HasTrue, IsFree, Guards, AllGuarded, Within, flags_of, Advances}
 use Rattle.sat_search.specs.Learning.{Learns}
-use Rattle.sat_search.specs.States.{LevelsAre, EntriesAre, IsState, AllLevelsGuarded, IsAhead}
+use Rattle.search_base.specs.Levels.{LevelsAre, EntriesAre}
+use Rattle.search_state.specs.States.{IsState, AllLevelsGuarded, IsAhead}
 use Rattle.sat_search.specs.Turns.{AreCarded, Holds, IsKept, IsLearned}
-use Rattle.sat_search.proofs.Lists.{slice_get-push, slice_get-push_cases, take_slice_get, take_within, take_whole, take-take}
-use Rattle.sat_search.proofs.Places.{falses-take}
-use Rattle.sat_search.proofs.Trails.{open_value, falses-push}
-use Rattle.sat_search.proofs.Settling.{IsStep-single}
-use Rattle.sat_search.proofs.Levels.{LevelsAre-extend, LevelsAre-decide}
-use Rattle.sat_search.proofs.Entries.{known_push, length-known, place_le}
-use Rattle.sat_search.proofs.Looking.{Guards-grow, Extends-within, AreWatched-len, IsTrail-push}
-use Rattle.sat_search.proofs.Flags.{flags-at, IsFirm-flags, IsFirm-push}
-use Rattle.sat_search.proofs.Guarding.{AllStuck-guarded, AreWatched-push, AllGuarded-push, AllGuarded-kept, IsTrail-known}
+use Rattle.search_base.specs.Lists.{slice_get-push, slice_get-push_cases, take_slice_get, take_within, take_whole, take-take}
+use Rattle.search_base.specs.Places.{falses-take}
+use Rattle.search_base.specs.Steps.{open_value, falses-push}
+use Rattle.search_base.specs.Settling.{IsStep-single}
+use Rattle.search_base.specs.Leveling.{LevelsAre-extend, LevelsAre-decide}
+use Rattle.search_base.specs.Entries.{known_push, length-known, place_le}
+use Rattle.search_state.specs.Growing.{Guards-grow, Extends-within, AreWatched-len, IsTrail-push}
+use Rattle.search_state.specs.Flags.{flags-at, IsFirm-flags, IsFirm-push}
+use Rattle.search_state.specs.Guarding.{AllStuck-guarded, AreWatched-push, AllGuarded-push, AllGuarded-kept, IsTrail-known}
 use Rattle.sat_search.proofs.Moves.{learned_below, learned_follows, asserting_below, learned_unit, learned_free, not_propagated, EntriesAre-push, LevelsAre-cut}
 
 -- a state is that of its parts

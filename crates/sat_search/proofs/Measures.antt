@@ -6,12 +6,12 @@ use Rattle.std.proofs.lemmas.List.Sums.{sum_by-cons}
 use Rattle.sat_check.specs.declared.clause.Clause.{Clause}
 use Rattle.sat_check.specs.declared.log.Entry.{Entry}
 use Rattle.sat_check.specs.Logs.{known_before}
-use Rattle.sat_search.specs.declared.watches.Pair.{Pair}
+use Rattle.search_state.specs.declared.watches.Pair.{Pair}
 use Rattle.sat_search.specs.declared.solver.Solver.{Solver}
-use Rattle.sat_search.specs.Watches.{flags_of, count_true}
-use Rattle.sat_search.specs.States.{Answers}
+use Rattle.search_state.specs.Watches.{flags_of, count_true}
+use Rattle.search_state.specs.States.{Answers}
 use Rattle.sat_search.specs.Turns.{Holds, asides_of, IsNearer, IsLearned, left_of, GoesOn}
-use Rattle.sat_search.proofs.Entries.{length-known}
+use Rattle.search_base.specs.Entries.{length-known}
 
 count_of : Bool → ℕ
 count_of flag = if flag then 1 else 0

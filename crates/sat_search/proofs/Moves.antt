@@ -10,25 +10,25 @@ use Rattle.sat_check.specs.declared.clause.Clause.{Clause}
 use Rattle.sat_check.specs.declared.log.Entry.{Entry}
 use Rattle.sat_check.specs.Clauses.{opposite_of, AreBelow}
 use Rattle.sat_check.specs.Logs.{HasNoValue, IsUnit, Follows, IsNew, IsRefutation, Refutes, known_before, EntriesAreBelow}
-use Rattle.sat_check.proofs.Lists.{at_within, Contains-nil, Contains-at, Contains-index}
-use Rattle.sat_check.proofs.Verdicts.{HasEmpty-push}
-use Rattle.sat_search.specs.declared.trail.Slot.{Slot}
-use Rattle.sat_search.specs.declared.trail.Step.{Step}
-use Rattle.sat_search.specs.declared.watches.Pair.{Pair}
-use Rattle.sat_search.specs.Trails.{falses_of, Keeps, IsStuck, AllStuck}
-use Rattle.sat_search.specs.Watches.{IsFree}
+use Rattle.sat_check.specs.Literals.{at_within, Contains-nil, Contains-at, Contains-index}
+use Rattle.sat_check.specs.Laws.{HasEmpty-push}
+use Rattle.search_base.specs.declared.trail.Slot.{Slot}
+use Rattle.search_base.specs.declared.trail.Step.{Step}
+use Rattle.search_state.specs.declared.watches.Pair.{Pair}
+use Rattle.search_base.specs.Trails.{falses_of, Keeps, IsStuck, AllStuck}
+use Rattle.search_state.specs.Watches.{IsFree}
 use Rattle.sat_search.specs.Learning.{Learns}
-use Rattle.sat_search.specs.Searches.{IsRefutedByPropagation}
-use Rattle.sat_search.specs.Shelves.{IsAside}
-use Rattle.sat_search.specs.States.{LevelsAre, EntriesAre}
-use Rattle.sat_search.proofs.Guarding.{cases_flag}
-use Rattle.sat_search.proofs.Lists.{slice_get-take, take_slice_get, take-take}
-use Rattle.sat_search.proofs.Places.{falses_more}
-use Rattle.sat_search.proofs.Trails.{shown_once}
-use Rattle.sat_search.proofs.Settling.{cases_Contains}
-use Rattle.sat_search.proofs.Refuting.{one_place, false_below}
-use Rattle.sat_search.proofs.Levels.{stuck_refutes_none}
-use Rattle.sat_search.proofs.Entries.{AllFollow-push, AllNew-push}
+use Rattle.search_base.specs.Searches.{IsRefutedByPropagation}
+use Rattle.search_state.specs.Shelves.{IsAside}
+use Rattle.search_base.specs.Levels.{LevelsAre, EntriesAre}
+use Rattle.search_state.specs.Guarding.{cases_flag}
+use Rattle.search_base.specs.Lists.{slice_get-take, take_slice_get, take-take}
+use Rattle.search_base.specs.Places.{falses_more}
+use Rattle.search_base.specs.Steps.{shown_once}
+use Rattle.search_base.specs.Settling.{cases_Contains}
+use Rattle.search_base.specs.Refuting.{one_place, false_below}
+use Rattle.search_base.specs.Leveling.{stuck_refutes_none}
+use Rattle.search_base.specs.Entries.{AllFollow-push, AllNew-push}
 
 -- ---- what was learned
 

@@ -9,17 +9,17 @@ use Rattle.sat_check.specs.declared.clause.Clause.{Clause}
 use Rattle.sat_check.specs.declared.log.Entry.{Entry}
 use Rattle.sat_check.specs.Clauses.{AreBelow}
 use Rattle.sat_check.specs.Logs.{known_before, Follows, IsNew}
-use Rattle.sat_search.specs.declared.watches.Pair.{Pair}
-use Rattle.sat_search.specs.declared.shelf.Shelf.{Shelf}
+use Rattle.search_state.specs.declared.watches.Pair.{Pair}
+use Rattle.search_state.specs.declared.shelf.Shelf.{Shelf}
 use Rattle.sat_search.specs.declared.solver.Solver.{Solver}
-use Rattle.sat_search.specs.Trails.{falses_of}
-use Rattle.sat_search.specs.Watches.{AreWatched, WatchesMore, IsPut, AllGuarded}
-use Rattle.sat_search.specs.Shelves.{IsShelf, IsCarded}
+use Rattle.search_base.specs.Trails.{falses_of}
+use Rattle.search_state.specs.Watches.{AreWatched, WatchesMore, IsPut, AllGuarded}
+use Rattle.search_state.specs.Shelves.{IsShelf, IsCarded}
 use Rattle.sat_search.specs.Turns.{AreCarded, Holds, IsKeptAside, IsReduced}
-use Rattle.sat_search.proofs.Lists.{slice_get-map, slice_get-push, slice_get-push_cases}
-use Rattle.sat_search.proofs.Entries.{known_push, length-known}
-use Rattle.sat_search.proofs.Flags.{IsFirm-set, IsFirm-push}
-use Rattle.sat_search.proofs.Guarding.{AreWatched-push, AllGuarded-push, IsTrail-known}
+use Rattle.search_base.specs.Lists.{slice_get-map, slice_get-push, slice_get-push_cases}
+use Rattle.search_base.specs.Entries.{known_push, length-known}
+use Rattle.search_state.specs.Flags.{IsFirm-set, IsFirm-push}
+use Rattle.search_state.specs.Guarding.{AreWatched-push, AllGuarded-push, IsTrail-known}
 use Rattle.sat_search.proofs.Moves.{not_propagated, EntriesAre-push}
 use Rattle.sat_search.proofs.Keeping.{Holds-same}
 use Rattle.sat_search.proofs.Retaking.{set_cases, AreWatched-put}

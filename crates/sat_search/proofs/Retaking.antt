@@ -10,21 +10,22 @@ use Rattle.sat_check.specs.declared.clause.Lit.{Lit}
 use Rattle.sat_check.specs.declared.clause.Clause.{Clause}
 use Rattle.sat_check.specs.Clauses.{opposite_of}
 use Rattle.sat_check.specs.Logs.{known_before, IsUnit}
-use Rattle.sat_check.proofs.Lists.{slice_get-set_same, slice_get-set_other}
-use Rattle.sat_search.specs.declared.trail.Step.{Step}
-use Rattle.sat_search.specs.declared.watches.Pair.{Pair}
-use Rattle.sat_search.specs.declared.watches.Watches.{Watches}
-use Rattle.sat_search.specs.declared.shelf.Shelf.{Shelf}
+use Rattle.sat_check.specs.Literals.{slice_get-set_same, slice_get-set_other}
+use Rattle.search_base.specs.declared.trail.Step.{Step}
+use Rattle.search_state.specs.declared.watches.Pair.{Pair}
+use Rattle.search_state.specs.declared.watches.Watches.{Watches}
+use Rattle.search_state.specs.declared.shelf.Shelf.{Shelf}
 use Rattle.sat_search.specs.declared.solver.Solver.{Solver}
-use Rattle.sat_search.specs.Trails.{falses_of, IsStep}
-use Rattle.sat_search.specs.Watches.{IsTrail, IsPairOf, AreWatched, IsPut, Guards, AllGuarded, flags_of, count_true}
-use Rattle.sat_search.specs.States.{LevelsAre, IsAhead}
-use Rattle.sat_search.specs.Shelves.{IsAside}
+use Rattle.search_base.specs.Trails.{falses_of, IsStep}
+use Rattle.search_state.specs.Watches.{IsTrail, IsPairOf, AreWatched, IsPut, Guards, AllGuarded, flags_of, count_true}
+use Rattle.search_base.specs.Levels.{LevelsAre}
+use Rattle.search_state.specs.States.{IsAhead}
+use Rattle.search_state.specs.Shelves.{IsAside}
 use Rattle.sat_search.specs.Turns.{AreCarded, Holds, IsTaken}
-use Rattle.sat_search.proofs.Lists.{slice_get-map}
-use Rattle.sat_search.proofs.Settling.{IsStep-single}
-use Rattle.sat_search.proofs.Looking.{AreWatched-len}
-use Rattle.sat_search.proofs.Flags.{IsFirm-set}
+use Rattle.search_base.specs.Lists.{slice_get-map}
+use Rattle.search_base.specs.Settling.{IsStep-single}
+use Rattle.search_state.specs.Growing.{AreWatched-len}
+use Rattle.search_state.specs.Flags.{IsFirm-set}
 use Rattle.sat_search.proofs.Moves.{LevelsAre-cut}
 use Rattle.sat_search.proofs.Keeping.{Assigned, Ahead}
 

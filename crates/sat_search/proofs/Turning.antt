@@ -9,22 +9,23 @@ use Rattle.sat_check.specs.declared.clause.Lit.{Lit}
 use Rattle.sat_check.specs.declared.clause.Clause.{Clause}
 use Rattle.sat_check.specs.declared.log.Entry.{Entry}
 use Rattle.sat_check.specs.Logs.{known_before, IsNew}
-use Rattle.sat_check.proofs.Lists.{Contains-nil}
-use Rattle.sat_search.specs.declared.trail.Step.{Step}
-use Rattle.sat_search.specs.declared.placed.PlacedTrail.{PlacedTrail}
-use Rattle.sat_search.specs.declared.watches.Watches.{Watches}
-use Rattle.sat_search.specs.declared.shelf.Card.{Card}
+use Rattle.sat_check.specs.Literals.{Contains-nil}
+use Rattle.search_base.specs.declared.trail.Step.{Step}
+use Rattle.search_state.specs.declared.placed.PlacedTrail.{PlacedTrail}
+use Rattle.search_state.specs.declared.watches.Watches.{Watches}
+use Rattle.search_state.specs.declared.shelf.Card.{Card}
 use Rattle.sat_search.specs.declared.solver.Solver.{Solver}
 use Rattle.sat_search.specs.declared.solver.Learning.{Learning}
 use Rattle.sat_search.specs.declared.solver.Learning.TheVariants.{Refuted, Asserted, Cleared, Conflict}
-use Rattle.sat_search.specs.Trails.{falses_of}
-use Rattle.sat_search.specs.Watches.{AllGuarded, flags_of, count_true}
+use Rattle.search_base.specs.Trails.{falses_of}
+use Rattle.search_state.specs.Watches.{AllGuarded, flags_of, count_true}
 use Rattle.sat_search.specs.Learning.{Learns}
-use Rattle.sat_search.specs.Shelves.{IsAside, IsShelf, IsCarded, list_at}
-use Rattle.sat_search.specs.States.{IsStart, IsAhead}
+use Rattle.search_state.specs.Shelves.{IsAside, IsShelf, IsCarded, list_at}
+use Rattle.search_base.specs.Levels.{IsStart}
+use Rattle.search_state.specs.States.{IsAhead}
 use Rattle.sat_search.specs.Turns.{Holds, asides_of, IsLearned, LearnedIs, IsTaken, TakenIs, IsReduced}
-use Rattle.sat_search.proofs.Entries.{some_lit}
-use Rattle.sat_search.proofs.Guarding.{IsStuck-guarded}
+use Rattle.search_base.specs.Entries.{some_lit}
+use Rattle.search_state.specs.Guarding.{IsStuck-guarded}
 use Rattle.sat_search.proofs.Moves.{learned_new}
 
 -- where what was learned isn't empty, there is a level

@@ -4,8 +4,8 @@ use Rattle.std.specs.List.{Contains}
 use Rattle.sat_check.specs.declared.clause.Lit.{Lit}
 use Rattle.sat_check.specs.declared.clause.Clause.{Clause}
 use Rattle.sat_check.specs.Logs.{Refutes}
-use Rattle.sat_search.specs.declared.trail.Step.{Step}
-use Rattle.sat_search.specs.Trails.{falses_of}
+use Rattle.search_base.specs.declared.trail.Step.{Step}
+use Rattle.search_base.specs.Trails.{falses_of}
 
 -- the literal became false on the last level, which begins at this place
 pub record IsLate (steps : List Step) (start : ℕ) (lit : Lit) : Type 0 where

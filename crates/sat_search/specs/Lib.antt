@@ -1,18 +1,4 @@
-pub mod Searches
-pub mod Trails
-pub mod Propagation
-pub mod States
-pub mod Analysis
-pub mod Watches
-pub mod Shelves
-pub mod Looks
+-- The definitions that the contracts cite.
 pub mod Learning
 pub mod Marks
-pub mod Walks
 pub mod Turns
-pub mod Beginning
-pub mod PlainOccurrences
-pub mod PlainPropagation
-pub mod PlainAnalysis
-pub mod PlainStates
-pub mod PlainTurns

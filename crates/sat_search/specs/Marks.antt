@@ -2,7 +2,7 @@
 use Rattle.std.specs.Prelude.{◌≡◌, ℕ, List, length}
 use Rattle.sat_check.specs.declared.clause.Clause.{Clause}
 use Rattle.sat_search.specs.declared.analysis.Analysis.{Analysis}
-use Rattle.sat_search.specs.Trails.{Keeps}
+use Rattle.search_base.specs.Trails.{Keeps}
 
 -- its own trail is one over so many variables
 pub record IsReady (variables : ℕ) (a : Analysis) : Type 0 where

@@ -4,8 +4,8 @@ use Rattle.std.specs.List.{All}
 use Rattle.sat_check.specs.declared.clause.Lit.{Lit}
 use Rattle.sat_check.specs.declared.clause.Clause.{Clause}
 use Rattle.sat_check.specs.Logs.{known_before, IsUnit, IsRefutation, EntriesAreBelow}
-use Rattle.sat_search.specs.declared.watches.Pair.{Pair}
-use Rattle.sat_search.specs.declared.shelf.Shelf.{Shelf}
+use Rattle.search_state.specs.declared.watches.Pair.{Pair}
+use Rattle.search_state.specs.declared.shelf.Shelf.{Shelf}
 use Rattle.sat_search.specs.declared.solver.Solver.{Solver}
 use Rattle.sat_search.specs.declared.solver.Learning.{Learning}
 use Rattle.sat_search.specs.declared.solver.Learning.TheVariants.{Refuted, Asserted, Cleared, Conflict}
@@ -13,11 +13,12 @@ use Rattle.sat_search.specs.declared.running.Ending.{Ending}
 use Rattle.sat_search.specs.declared.running.Ending.TheVariants as ending
 use Rattle.sat_search.specs.declared.running.Turn.{Turn}
 use Rattle.sat_search.specs.declared.running.Turn.TheVariants.{Ends, Goes}
-use Rattle.sat_search.specs.Trails.{falses_of, AllStuck, Keeps}
-use Rattle.sat_search.specs.Propagation.{IsConflict}
-use Rattle.sat_search.specs.Watches.{AllGuarded, IsFree, flags_of, count_true}
-use Rattle.sat_search.specs.Shelves.{IsAside, IsShelf, IsCarded}
-use Rattle.sat_search.specs.States.{IsState, EntriesAre, Answers, IsAhead}
+use Rattle.search_base.specs.Trails.{falses_of, AllStuck, Keeps}
+use Rattle.search_base.specs.Propagation.{IsConflict}
+use Rattle.search_state.specs.Watches.{AllGuarded, IsFree, flags_of, count_true}
+use Rattle.search_state.specs.Shelves.{IsAside, IsShelf, IsCarded}
+use Rattle.search_base.specs.Levels.{EntriesAre}
+use Rattle.search_state.specs.States.{IsState, Answers, IsAhead}
 use Rattle.sat_search.specs.Marks.{IsReady}
 
 -- each clause that was set aside stands on the shelf

@@ -4,20 +4,19 @@ ghost use Rattle.std.specs.Prelude.{◌≡◌, ℕ, ◌+◌, ◌<◌, ◌≤◌,
 ghost use Rattle.std.specs.List.{Contains};
 ghost use Rattle.sat_check.specs.Clauses.{ClausesAreBelow};
 ghost use Rattle.sat_check.specs.Logs.{EntriesAreBelow, known_before};
-ghost use Rattle.sat_search.specs.Trails.{falses_of};
-ghost use Rattle.sat_search.specs.Propagation.{IsConflict};
-ghost use Rattle.sat_search.specs.Watches.{IsTrail};
-ghost use Rattle.sat_search.specs.Analysis.{IsLastLevel};
+ghost use Rattle.search_base.specs.Trails.{falses_of};
+ghost use Rattle.search_base.specs.Propagation.{IsConflict};
+ghost use Rattle.search_state.specs.Watches.{IsTrail};
+ghost use Rattle.search_base.specs.Analysis.{IsLastLevel};
 ghost use Rattle.sat_search.specs.Learning.{Learns, IsBase, IsLate, IsFalseAt, KeepIs};
 ghost use Rattle.sat_search.specs.Marks.{IsReady};
 ghost use Rattle.sat_check.specs.declared.clause.Lit.{Lit as OneLit};
-ghost use Rattle.sat_search.specs.declared.trail.Step.{Step as OneStep};
+ghost use Rattle.search_base.specs.declared.trail.Step.{Step as OneStep};
 
 use crate::gathering::{Gathering, Levels};
-use crate::placed::PlacedTrail;
-use crate::plain::analysis as plain;
-use crate::trail::Trail;
 use sat_check::{Clause, Entry, Hints, Lit, Lits};
+use search_base::{Learned as Plain, Trail, analyze};
+use search_state::PlacedTrail;
 use std::alloc::{AllocError, Global};
 
 /// A clause that follows, its literal of the last level, if it has one, and how much of the trail
@@ -197,7 +196,7 @@ fn analyze_plainly(
     ensures leveled { IfOk result (λ learned. IsSome learned.asserting → levels.base < length placed.now.trail.steps.items) }
     ensures learns { IfOk result (λ learned. Learns (known_before clauses.now entries.now) placed.now.trail.steps.items levels.start learned.entry.clause.lits learned.entry.hints learned.asserting learned.keep) }
 {
-    let plain::Learned { entry, keep } = plain::analyze(
+    let Plain { entry, keep } = analyze(
         alloc,
         &placed.trail,
         clauses,

@@ -3,13 +3,12 @@ ghost use Rattle.std.specs.Prelude.{◌≡◌, ◌<◌, length, IfOk, OnOk, Some
 ghost use Rattle.sat_check.specs.Clauses.{ClausesAreBelow};
 ghost use Rattle.sat_check.specs.Logs.{known_before, IsNew, Follows};
 ghost use Rattle.sat_check.specs.Clauses.{AreBelow};
-ghost use Rattle.sat_search.specs.Shelves.{IsAside};
+ghost use Rattle.search_state.specs.Shelves.{IsAside};
 ghost use Rattle.sat_search.specs.Turns.{Holds, LearnedIs, TakenIs, IsKeptAside, IsReduced};
 
-use crate::beginning::{NO_LITERAL, Standing, standing_of};
 use crate::solver::{Learning, Solver, next_index};
-use crate::watches::Pair;
 use sat_check::{Clause, Entry, named};
+use search_state::{NO_LITERAL, Pair, Standing, standing_of};
 use std::alloc::{AllocError, Global};
 
 impl Solver {

@@ -1,9 +1,9 @@
 //! Where a conflict comes from: the literals of the clause that it teaches, and the reasons that
 //! replace the others. Nobody relies on what is found here: `walk` tries it.
 use crate::minimizing::Stop;
-use crate::placed::PlacedTrail;
 use crate::uses::Uses;
 use sat_check::{Clause, Entry, Lit, named};
+use search_state::PlacedTrail;
 use std::alloc::{AllocError, Global};
 
 /// How far a variable was gone over.

@@ -6,36 +6,20 @@
 //! decided first, and from time to time all decisions are taken back (Moskewicz, Madigan, Zhao,
 //! Zhang and Malik, "Chaff", 2001). What it learns is an entry of a log that `sat_check` follows,
 //! so nobody has to trust the search. Entries of little use are set aside: propagation leaves them
-//! out, and a new entry is compared with them, so that none is learned twice (`shelf`, `asides`).
+//! out, and a new entry is compared with them, so that none is learned twice (`asides`).
 //! `plain_search` is the same without all this.
 #![tactic(auto)]
 
 mod analysis;
 mod asides;
-mod beginning;
-mod found;
 mod gathering;
 mod minimizing;
 mod order;
-mod placed;
-mod plain;
-mod propagation;
 mod restarts;
 mod running;
 mod searching;
-mod shelf;
 mod solver;
 mod stock;
-mod trail;
 mod uses;
-mod walk;
-mod watches;
 
-pub use found::{Found, Values};
-pub use plain::plain_search;
 pub use searching::search;
-
-#[cfg(test)]
-mod table_tests;
-#[cfg(test)]
-mod tests;

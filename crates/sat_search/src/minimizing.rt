@@ -4,8 +4,8 @@
 //! A literal follows where each other literal of its reason stands in the clause or follows itself
 //! (Sörensson and Biere, "Minimizing Learned Clauses", 2009).
 use crate::gathering::{Gathering, Levels, Mark, is_before, reason_of};
-use crate::placed::PlacedTrail;
 use sat_check::{Clause, Entry};
+use search_state::PlacedTrail;
 use std::alloc::AllocError;
 
 /// A step whose reason is gone over, and the next literal of it.

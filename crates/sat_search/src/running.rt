@@ -2,10 +2,10 @@
 ghost use Rattle.std.specs.Prelude.{◌≡◌, ℕ, ◌<◌, ◌≤◌, ◌^◌, length, IfOk, OnOk};
 ghost use Rattle.sat_check.specs.Clauses.{ClausesAreBelow};
 ghost use Rattle.sat_check.specs.Logs.{known_before};
-ghost use Rattle.sat_search.specs.Trails.{falses_of};
-ghost use Rattle.sat_search.specs.Watches.{AllGuarded};
-ghost use Rattle.sat_search.specs.Propagation.{IsConflict};
-ghost use Rattle.sat_search.specs.States.{Answers};
+ghost use Rattle.search_base.specs.Trails.{falses_of};
+ghost use Rattle.search_state.specs.Watches.{AllGuarded};
+ghost use Rattle.search_base.specs.Propagation.{IsConflict};
+ghost use Rattle.search_state.specs.States.{Answers};
 ghost use Rattle.sat_search.specs.Turns.{Holds, EndingIs, TurnIs, left_of};
 
 use crate::solver::{Learning, Solver};

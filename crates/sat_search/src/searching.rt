@@ -1,12 +1,12 @@
 //! The search.
 ghost use Rattle.std.specs.Prelude.{◌≡◌, ℕ, ◌<◌, ◌^◌, IfOk};
 ghost use Rattle.sat_check.specs.Clauses.{ClausesAreBelow};
-ghost use Rattle.sat_search.specs.Searches.{IfAssignment, IfRefuted, IfSpent, IsSolution, IsRefutationWithin, IsSpent, IsRefutedByPropagation};
+ghost use Rattle.search_base.specs.Searches.{IfAssignment, IfRefuted, IfSpent, IsSolution, IsRefutationWithin, IsSpent, IsRefutedByPropagation};
 
-use crate::found::{Found, values_by};
 use crate::running::Ending;
 use crate::solver::Solver;
 use sat_check::{Clause, Log};
+use search_base::{Found, new_entries_are_few, stuck_is_solved, values_by};
 use std::alloc::{AllocError, Global};
 
 /// Searches for values of `variables` variables under which each clause is true, or for a log that
@@ -31,6 +31,8 @@ pub fn search(
     // What propagation alone refutes is found with the first entry.
     ensures never_spent_by_propagation { IfOk result (λ found. IfSpent found (λ _. 0 < conflicts → ¬ IsRefutedByPropagation clauses.now)) }
 {
+    stuck_is_solved();
+    new_entries_are_few();
     if clauses.len() > u32::MAX as usize {
         return Err(AllocError);
     }

@@ -3,26 +3,25 @@ ghost use Rattle.std.specs.Prelude.{◌≡◌, ◌+◌, ◌-◌, ◌<◌, ◌≤
 ghost use Rattle.std.specs.List.{All};
 ghost use Rattle.sat_check.specs.Clauses.{ClausesAreBelow};
 ghost use Rattle.sat_check.specs.Logs.{known_before, IsNew};
-ghost use Rattle.sat_search.specs.Trails.{falses_of};
-ghost use Rattle.sat_search.specs.Propagation.{IsConflict};
-ghost use Rattle.sat_search.specs.Watches.{IsTrail, AllGuarded, flags_of};
+ghost use Rattle.search_base.specs.Trails.{falses_of};
+ghost use Rattle.search_base.specs.Propagation.{IsConflict};
+ghost use Rattle.search_state.specs.Watches.{IsTrail, AllGuarded, flags_of};
 ghost use Rattle.sat_search.specs.Learning.{Learns};
-ghost use Rattle.sat_search.specs.States.{IsState, IsStart, IsAhead, Answers};
+ghost use Rattle.search_base.specs.Levels.{IsStart};
+ghost use Rattle.search_state.specs.States.{IsState, IsAhead, Answers};
 ghost use Rattle.sat_search.specs.Turns.{Holds, LearnedIs, IsKept};
-ghost use Rattle.sat_search.specs.declared.trail.Slot.{Slot as OneSlot};
-ghost use Rattle.sat_search.specs.declared.trail.Step.{Step as OneStep};
+ghost use Rattle.search_base.specs.declared.trail.Slot.{Slot as OneSlot};
+ghost use Rattle.search_base.specs.declared.trail.Step.{Step as OneStep};
 ghost use Rattle.sat_check.specs.declared.clause.Clause.{Clause as OneClause};
 
 use crate::analysis::{Analysis, Learned};
 use crate::gathering::Levels;
 use crate::order::Order;
-use crate::placed::PlacedTrail;
 use crate::restarts::Restarts;
-use crate::shelf::Shelf;
 use crate::stock::Stock;
-use crate::trail::open_variable;
-use crate::watches::{Pair, Watches};
 use sat_check::{Clause, Entries, Entry, Lit};
+use search_base::open_variable;
+use search_state::{Pair, PlacedTrail, Shelf, Watches};
 use std::alloc::{AllocError, Global};
 
 /// The trail with the places at which its levels begin, each with a decision; which clauses watch

@@ -1,8 +1,8 @@
 //! Which entries watch, how many may, and which of them are set aside where there are too many.
 //! Nobody relies on what is chosen here.
-use crate::placed::PlacedTrail;
 use crate::uses::Uses;
 use sat_check::Entry;
+use search_state::PlacedTrail;
 use std::alloc::{AllocError, Global};
 
 /// The numbers of the entries that watch, and how many may; and after how many more entries the

@@ -1,3 +1,4 @@
+-- The lemmas of this crate's proofs.
 pub mod Rows
 pub mod Numbers
 pub mod Spelling

@@ -14,6 +14,7 @@ use Rattle.sat_check.specs.declared.clause.Lit.{Lit}
 use Rattle.sat_check.specs.declared.clause.Clause.{Clause}
 use Rattle.sat_check.specs.Clauses.{AreBelow, ClausesAreBelow}
 use Rattle.sat_text.specs.declared.formula.Formula.{Formula}
+use Rattle.sat_text.specs.declared.limits.TheConstants.FormulaLimits as limits
 use Rattle.sat_text.specs.declared.reader.Header.{Header}
 use Rattle.sat_text.specs.declared.reader.Reader.{Reader}
 use Rattle.sat_text.specs.declared.reading.TextFault.{TextFault}
@@ -52,8 +53,8 @@ all_below v cs a = All-from_recursion (λ c. AreBelow v c.lits) cs (weaker v cs 
 -- ---- the header
 pub record Heads (h : Header) (row : Row) : Type 0 where
   pub is : row ≡ header_words h.variables h.clauses
-  pub few_variables : h.variables ≤ 1000000
-  pub few_clauses : h.clauses ≤ 4294967295
+  pub few_variables : h.variables ≤ limits.VARIABLES
+  pub few_clauses : h.clauses ≤ limits.CLAUSES
 
 heads_of : (o q : Option ℕ) (h : Header) → header_of o q ≡ Some h → (o ≡ Some h.variables) × (q ≡ Some h.clauses)
 heads_of None q h e = let n : ⊥ = cc in absurd n
@@ -68,14 +69,14 @@ heads (p ∷ []) h e = let n : ⊥ = cc in absurd n
 heads (p ∷ cnf ∷ []) h e = let n : ⊥ = cc in absurd n
 heads (p ∷ cnf ∷ a ∷ []) h e = let n : ⊥ = cc in absurd n
 heads (p ∷ cnf ∷ a ∷ b ∷ []) h e =
-    (elim (bytes_eq p (codes "p") && bytes_eq cnf (codes "cnf")) as (λ t. bytes_eq p (codes "p") && bytes_eq cnf (codes "cnf") ≡ t → cond t (header_of (number_in 1000000 a) (number_in 4294967295 b)) None ≡ Some h → Heads h (p ∷ cnf ∷ a ∷ b ∷ [])) [
+    (elim (bytes_eq p (codes "p") && bytes_eq cnf (codes "cnf")) as (λ t. bytes_eq p (codes "p") && bytes_eq cnf (codes "cnf") ≡ t → cond t (header_of (number_in limits.VARIABLES a) (number_in limits.CLAUSES b)) None ≡ Some h → Heads h (p ∷ cnf ∷ a ∷ b ∷ [])) [
       | true ↦ λ t k.
           let two = both_true (bytes_eq p (codes "p")) (bytes_eq cnf (codes "cnf")) t in
           let first : p ≡ codes "p" = same_bytes p (codes "p") two.0 in
           let second : cnf ≡ codes "cnf" = same_bytes cnf (codes "cnf") two.1 in
-          let x = heads_of (number_in 1000000 a) (number_in 4294967295 b) h k in
-          let v = number_word 1000000 h.variables a (omega arith) x.0 in
-          let w = number_word 4294967295 h.clauses b (omega arith) x.1 in
+          let x = heads_of (number_in limits.VARIABLES a) (number_in limits.CLAUSES b) h k in
+          let v = number_word limits.VARIABLES h.variables a (omega arith) x.0 in
+          let w = number_word limits.CLAUSES h.clauses b (omega arith) x.1 in
           record {
             is = ap (λ l. l ∷ cnf ∷ a ∷ b ∷ []) first ∙ ap (λ l. codes "p" ∷ l ∷ a ∷ b ∷ []) second ∙ ap (λ l. codes "p" ∷ codes "cnf" ∷ l ∷ b ∷ []) v.is ∙ ap (λ l. codes "p" ∷ codes "cnf" ∷ decimal h.variables ∷ l ∷ []) w.is;
             few_variables = v.within;
@@ -88,9 +89,9 @@ heads (p ∷ cnf ∷ a ∷ b ∷ []) h e =
     same_bytes x y e = (bytes_eq-Decides x y).0 e
 heads (p ∷ cnf ∷ a ∷ b ∷ c ∷ row) h e = let n : ⊥ = cc in absurd n
 
-header_is : (v n : ℕ) → v ≤ 1000000 → n ≤ 4294967295 → header_in (header_words v n) ≡ Some (record { variables = v; clauses = n })
+header_is : (v n : ℕ) → v ≤ limits.VARIABLES → n ≤ limits.CLAUSES → header_in (header_words v n) ≡ Some (record { variables = v; clauses = n })
 header_is v n l m =
-    ap (λ o. header_of o (number_in 4294967295 (decimal n))) (number_decimal 1000000 v (omega arith) l) ∙ ap (λ o. header_of (Some v) o) (number_decimal 4294967295 n (omega arith) m)
+    ap (λ o. header_of o (number_in limits.CLAUSES (decimal n))) (number_decimal limits.VARIABLES v (omega arith) l) ∙ ap (λ o. header_of (Some v) o) (number_decimal limits.CLAUSES n (omega arith) m)
 
 -- ---- a text's formula is what reading gives
 token_kept : (r s : Reader) (t : Token) → token_step r t ≡ s → s.header ≡ r.header
@@ -127,7 +128,7 @@ blank_rows r (row ∷ rows) e b =
     let one : row_step r row ≡ Some r = ap (row_step r) b.0 ∙ ap (λ o. row_step_at o r []) e in
     ap (option_and_then (λ n. rows_step n rows)) one ∙ blank_rows r rows e b.1
 
-header_rows : (rows : List Row) (v n : ℕ) → v ≤ 1000000 → n ≤ 4294967295 → rows_step start (header_words v n ∷ rows) ≡ rows_step (record start { header = Some (record { variables = v; clauses = n }) }) rows
+header_rows : (rows : List Row) (v n : ℕ) → v ≤ limits.VARIABLES → n ≤ limits.CLAUSES → rows_step start (header_words v n ∷ rows) ≡ rows_step (record start { header = Some (record { variables = v; clauses = n }) }) rows
 header_rows rows v n l m = ap (option_and_then (λ k. rows_step k rows)) (ap (option_map (λ h. record start { header = Some h })) (header_is v n l m))
 
 formula_whole : (h : Header) (r : Reader) (cs : List Clause) → r.header ≡ Some h → r.clauses ≡ cs → r.lits ≡ [] → length cs ≡ h.clauses → formula_of r ≡ Some (record { variables = h.variables; clauses = cs })
@@ -163,8 +164,8 @@ pub record Behind (rows : List Row) (r : Reader) : Type 0 where
   pub rest : List Row
   pub split : rows ≡ before ++ header_words header.variables header.clauses ∷ rest
   pub blank : AllByRecursion (λ row. row ≡ []) before
-  pub few_variables : header.variables ≤ 1000000
-  pub few_clauses : header.clauses ≤ 4294967295
+  pub few_variables : header.variables ≤ limits.VARIABLES
+  pub few_clauses : header.clauses ≤ limits.CLAUSES
   pub spells : Spells header r (row_words rest)
 
 abbrev pub Reached : List Row → Reader → Type 0
@@ -244,7 +245,7 @@ says_behind rows r b f e =
       clauses = b.spells.is ∙ ap (λ l. flat_map clause_words r.clauses ++ map lit_word l) none ∙ append-nil (flat_map clause_words r.clauses);
       below = all_below b.header.variables r.clauses b.spells.below;
       few_variables = b.few_variables;
-      few_clauses = subst (λ n. n ≤ 4294967295) (sym count) b.few_clauses;
+      few_clauses = subst (λ n. n ≤ limits.CLAUSES) (sym count) b.few_clauses;
     })
 
 says : (rows : List Row) (r : Reader) (f : Formula) → Reached rows r → formula_of r ≡ Some f → Denotes rows f
@@ -294,7 +295,7 @@ ends_with rows r b row cs n below e = (
     clauses = row_words-more b.rest row ∙ e;
     below = all_below b.header.variables cs below;
     few_variables = b.few_variables;
-    few_clauses = subst (λ k. k ≤ 4294967295) (sym n) b.few_clauses;
+    few_clauses = subst (λ k. k ≤ limits.CLAUSES) (sym n) b.few_clauses;
   },
 )
 

@@ -6,6 +6,7 @@ use Rattle.sat_check.specs.declared.clause.Lit.{Lit}
 use Rattle.sat_check.specs.declared.clause.Clause.{Clause}
 use Rattle.sat_check.specs.Clauses.{ClausesAreBelow}
 use Rattle.sat_text.specs.declared.formula.Formula.{Formula}
+use Rattle.sat_text.specs.declared.limits.TheConstants.FormulaLimits as limits
 
 -- a literal: the number of its variable, counted from 1, behind a minus where it is negated
 abbrev pub lit_word : Lit → List ℕ
@@ -28,8 +29,8 @@ pub record Denotes (rows : List (List (List ℕ))) (f : Formula) : Type 0 where
   pub blank : AllByRecursion (λ row. row ≡ []) before
   pub clauses : flat_map (λ row. row) rest ≡ flat_map clause_words f.clauses
   pub below : ClausesAreBelow f.variables f.clauses
-  pub few_variables : f.variables ≤ 1000000
-  pub few_clauses : length f.clauses ≤ 4294967295
+  pub few_variables : f.variables ≤ limits.VARIABLES
+  pub few_clauses : length f.clauses ≤ limits.CLAUSES
 
 -- with some more lines these say a formula
 abbrev pub Begins : List (List (List ℕ)) → Type 0

@@ -1,3 +1,4 @@
+-- The definitions that the contracts cite.
 pub mod Texts
 pub mod Formulas
 pub mod Reading

@@ -5,6 +5,7 @@ use Rattle.std.specs.List.{starts_with, list_all}
 use Rattle.std.specs.Str.{bytes_eq}
 use Rattle.sat_check.specs.declared.clause.Lit.{Lit}
 use Rattle.sat_text.specs.declared.formula.Formula.{Formula}
+use Rattle.sat_text.specs.declared.limits.TheConstants.FormulaLimits as limits
 use Rattle.sat_text.specs.declared.numerals.Token.{Token}
 use Rattle.sat_text.specs.declared.numerals.Token.TheVariants.{End, Literal}
 use Rattle.sat_text.specs.declared.reader.Header.{Header}
@@ -59,7 +60,7 @@ header_of (Some variables) (Some clauses) = Some (record { variables = variables
 
 abbrev pub header_in : List (List ℕ) → Option Header
 header_in (p ∷ cnf ∷ variables ∷ clauses ∷ []) =
-    if bytes_eq p (codes "p") && bytes_eq cnf (codes "cnf") then header_of (number_in 1000000 variables) (number_in 4294967295 clauses) else None
+    if bytes_eq p (codes "p") && bytes_eq cnf (codes "cnf") then header_of (number_in limits.VARIABLES variables) (number_in limits.CLAUSES clauses) else None
 header_in row = None
 
 abbrev pub header_row : Reader → List (List ℕ) → Option Reader

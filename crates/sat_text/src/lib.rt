@@ -4,6 +4,7 @@
 
 mod formula;
 mod laws;
+mod limits;
 mod log_text;
 mod numerals;
 mod reader;
@@ -13,6 +14,7 @@ mod words;
 
 pub use formula::{Clauses, Formula};
 pub use laws::one_formula;
+pub use limits::FormulaLimits;
 pub use log_text::{push_entry, up_to_empty};
 pub use reading::{TextFault, read};
 pub use values::values_text;

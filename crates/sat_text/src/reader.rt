@@ -4,16 +4,11 @@ ghost use Rattle.sat_text.specs.Texts.{words_of, row_of};
 ghost use Rattle.sat_text.specs.Reading.{token_step, word_step, words_step, header_in, header_row, row_step, start, formula_of};
 
 use crate::formula::{Clauses, Formula};
+use crate::limits::FormulaLimits;
 use crate::numerals::{Token, number_in, token_in};
 use crate::words::{is_comment, next_word};
 use sat_check::{Clause, Lits};
 use std::alloc::{AllocError, AllocFailed, Global};
-
-/// How many variables a formula may have.
-const MOST_VARIABLES: u32 = 1_000_000;
-
-/// How many clauses a formula may have.
-const MOST_CLAUSES: u32 = 4_294_967_295;
 
 /// Why a line is not taken.
 #[derive(Clone, Copy, Debug, PartialEq, Eq)]
@@ -171,7 +166,7 @@ fn header_in(line: &[u8]) -> Option<Header>
         return None;
     }
     Some(Header {
-        variables: number_in(MOST_VARIABLES, variables)?,
-        clauses: number_in(MOST_CLAUSES, clauses)?,
+        variables: number_in(FormulaLimits::VARIABLES, variables)?,
+        clauses: number_in(FormulaLimits::CLAUSES, clauses)?,
     })
 }

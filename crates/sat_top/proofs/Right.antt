@@ -4,6 +4,7 @@ use Rattle.std.specs.Prelude.{◌⊎◌}
 use Rattle.sat_text.specs.declared.formula.Formula.{Formula}
 use Rattle.sat_text.specs.Texts.{rows_of}
 use Rattle.sat_text.specs.Formulas.{Denotes, FirstFault, OneFormula}
+use Rattle.sat_top.specs.declared.limits.TheConstants.Limits as limits
 use Rattle.sat_top.specs.declared.status.Status.{Status}
 use Rattle.sat_top.specs.declared.status.Status.TheVariants.{Satisfiable, Unsatisfiable, Unknown, BadLine, Limit, Absent, ReadFault, WriteFault, Memory, Usage}
 use Rattle.sat_top.specs.Requests.{Asked, asked_in}
@@ -49,7 +50,7 @@ complete call BadLine a text asks f g le n =
     let t = same_text call text a.text asks a.asked f g a.asks in
     absurd (a.fault.none f (subst (λ x. Denotes (rows_of x) f) t g.denotes))
 complete call Limit a text asks f g le n =
-    let h = at_name call text asks f g (λ o. (x : List ℕ) × (o ≡ Some x) × (67108864 < length x)) a.asks a.asked a.told in
+    let h = at_name call text asks f g (λ o. (x : List ℕ) × (o ≡ Some x) × (limits.BYTES < length x)) a.asks a.asked a.told in
     let e : text ≡ h.0 = let q = h.1 in cc in
     let l = ap length e in
     absurd (omega (arith, h.2, l, le))

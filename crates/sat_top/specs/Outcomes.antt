@@ -6,11 +6,12 @@ use Rattle.gc0_io.specs.Bytes.{TakesFront}
 use Rattle.gc0_io.specs.Fetching.{Contents}
 use Rattle.sat_check.specs.declared.log.Entry.{Entry}
 use Rattle.sat_check.specs.Clauses.{IsUnsatisfiable}
-use Rattle.sat_search.specs.Searches.{IsSolution, IsSpent}
+use Rattle.search_base.specs.Searches.{IsSolution, IsSpent, IsRefutedByPropagation}
 use Rattle.sat_text.specs.declared.formula.Formula.{Formula}
 use Rattle.sat_text.specs.Texts.{rows_of}
 use Rattle.sat_text.specs.Formulas.{Denotes, FirstFault}
 use Rattle.sat_text.specs.LogTexts.{log_lines, IsProof}
+use Rattle.sat_top.specs.declared.limits.TheConstants.Limits as limits
 use Rattle.sat_top.specs.declared.status.Status.{Status}
 use Rattle.sat_top.specs.declared.status.Status.TheVariants.{Satisfiable, Unsatisfiable, Unknown, BadLine, Limit, Absent, ReadFault, WriteFault, Memory, Usage}
 use Rattle.sat_top.specs.Requests.{Asked, asked_in}
@@ -69,11 +70,13 @@ pub record SaysUnsatisfiable (f : Formula) (text : List ℕ) : Type 0 where
   pub unsatisfiable : IsUnsatisfiable f.clauses
   pub is : text ≡ unsatisfiable_line
 
--- as many clauses were learnt as were asked for, which are too few to try everything
+-- As many clauses were learnt as were asked for, which are too few to try everything; and where one was
+-- asked for, propagation alone doesn't refute the formula.
 pub record SaysUnknown (f : Formula) (conflicts : ℕ) (text : List ℕ) : Type 0 where
   pub entries : List Entry
   pub spent : IsSpent f.variables f.clauses conflicts entries
   pub few : conflicts < 3 ^ f.variables
+  pub not_propagated : 0 < conflicts → ¬ IsRefutedByPropagation f.clauses
   pub is : text ≡ unknown_line
 
 abbrev pub IsAnswer : Formula → ℕ → List ℕ → Type 0
@@ -143,10 +146,11 @@ Ends f asks o WriteFault = OutputFailed o × (IsUnanswered f asks o ⊎ IsCut f 
 Ends f asks o Memory = IsUnanswered f asks o
 Ends f asks o status = ⊥
 
--- the words name a file that has this text, where files are told
+-- the words name a file that has this text, where files are told, and it isn't too long
 pub record Asks (call : Call) (text : List ℕ) (asks : Asked) : Type 0 where
   pub asked : asked_in call.words ≡ Some asks
   pub told : IfSome call.files (λ files. files asks.formula ≡ Some text)
+  pub few : length text ≤ limits.BYTES
 
 -- the formula of the file was reached: the end of its search is this
 pub record Reaches (call : Call) (status : Status) : Type 0 where
@@ -168,7 +172,7 @@ pub record IsAbsent (call : Call) : Type 0 where
 pub record IsTooLong (call : Call) : Type 0 where
   pub asks : Asked
   pub asked : asked_in call.words ≡ Some asks
-  pub told : IfSome call.files (λ files. (text : List ℕ) × (files asks.formula ≡ Some text) × (67108864 < length text))
+  pub told : IfSome call.files (λ files. (text : List ℕ) × (files asks.formula ≡ Some text) × (limits.BYTES < length text))
   pub says : Refuses call.outputs limit_line
 
 -- this line of the file is the first that is none of the format
@@ -220,7 +224,7 @@ pub record Faultless (call : Call) : Type 0 where
 -- A file of at most 64 MiB that says a formula is answered, unless memory runs out.
 abbrev pub IsComplete : Call → Status → Type 0
 IsComplete call status =
-    (text : List ℕ) (asks : Asked) (f : Formula) → Given call text asks f → length text ≤ 67108864 → Faultless call → IsEnding status ⊎ (status ≡ Memory)
+    (text : List ℕ) (asks : Asked) (f : Formula) → Given call text asks f → length text ≤ limits.BYTES → Faultless call → IsEnding status ⊎ (status ≡ Memory)
 
 -- a line was written and the answer is this status, or the write failed
 abbrev pub Says : ℕ → ℕ → Option (List ℕ) → Option (List ℕ) → List ℕ → Status → Status → Type 0

@@ -3,6 +3,7 @@ use Rattle.std.specs.Prelude.{ℕ, Bool, List, [], ◌∷◌, Option, Some, None
 use Rattle.std.specs.List.{starts_with, list_all}
 use Rattle.std.specs.Option.{option_and_then}
 use Rattle.std.specs.Str.{bytes_eq}
+use Rattle.sat_top.specs.declared.limits.TheConstants.Limits as limits
 use Rattle.sat_top.specs.declared.request.Request.{Request}
 
 -- a file with a formula, a file for the proof where there is one, and how many clauses may be learnt
@@ -31,7 +32,7 @@ decimal_value digits = fold (λ n d. n * 10 + (d - 48)) 0 digits
 
 -- the number of conflicts that a word writes
 abbrev pub conflicts_in : List ℕ → Option ℕ
-conflicts_in word = if is_numeral word && nat_le (decimal_value word) 4294967295 then Some (decimal_value word) else None
+conflicts_in word = if is_numeral word && nat_le (decimal_value word) limits.CONFLICTS then Some (decimal_value word) else None
 
 -- `CNF`
 abbrev pub plain_in : ℕ → (formula : List ℕ) → Option Asked
@@ -49,8 +50,8 @@ limited_in option number = if bytes_eq option (codes "--conflicts") then conflic
 -- what the words ask for; none where they are no request
 abbrev pub asked_in : List (List ℕ) → Option Asked
 asked_in [] = None
-asked_in (formula ∷ []) = plain_in 100000 formula
-asked_in (formula ∷ proof ∷ []) = proved_in 100000 formula proof
+asked_in (formula ∷ []) = plain_in limits.DEFAULT_CONFLICTS formula
+asked_in (formula ∷ proof ∷ []) = proved_in limits.DEFAULT_CONFLICTS formula proof
 asked_in (option ∷ number ∷ formula ∷ []) = option_and_then (λ n. plain_in n formula) (limited_in option number)
 asked_in (option ∷ number ∷ formula ∷ proof ∷ []) = option_and_then (λ n. proved_in n formula proof) (limited_in option number)
 asked_in (option ∷ number ∷ formula ∷ proof ∷ more ∷ words) = None

@@ -3,6 +3,7 @@
 #![tactic(auto)]
 
 mod answers;
+mod limits;
 mod log_file;
 mod request;
 mod search;
@@ -10,6 +11,7 @@ mod status;
 mod target;
 mod top;
 
+pub use limits::Limits;
 pub use request::{Request, request_of};
 pub use status::Status;
 pub use target::Target;

@@ -2,11 +2,7 @@
 ghost use Rattle.std.specs.Prelude.{◌≡◌, ◌≤◌, IfSome, map, option_map, string_bytes};
 ghost use Rattle.sat_top.specs.Requests.{asked_in, asked_of, is_option, conflicts_in, plain_in, proved_in, limited_in};
 
-/// How many clauses a search may learn where the words name no number.
-const DEFAULT_CONFLICTS: u64 = 100_000;
-
-/// The greatest number of clauses that may be asked for.
-const MOST_CONFLICTS: u64 = 4_294_967_295;
+use crate::limits::Limits;
 
 /// What the words of a command ask for.
 #[derive(Clone, Copy, Debug)]
@@ -26,11 +22,11 @@ pub struct Request<'a> {
 /// 4,294,967,295, and 100,000 where the words name none.
 pub fn request_of(words: &[String]) -> Option<Request<'_>>
     ensures asked { option_map asked_of result ≡ asked_in (map string_bytes words.now) }
-    ensures few { IfSome result (λ r. r.conflicts ≤ 4294967295) }
+    ensures few { IfSome result (λ r. r.conflicts ≤ Limits.CONFLICTS) }
 {
     match words {
-        [formula] => plain(DEFAULT_CONFLICTS, formula.as_str()),
-        [formula, proof] => proved(DEFAULT_CONFLICTS, formula.as_str(), proof.as_str()),
+        [formula] => plain(Limits::DEFAULT_CONFLICTS, formula.as_str()),
+        [formula, proof] => proved(Limits::DEFAULT_CONFLICTS, formula.as_str(), proof.as_str()),
         [option, number, formula] => {
             plain(limit(option.as_str(), number.as_str())?, formula.as_str())
         }
@@ -79,7 +75,7 @@ fn proved<'a>(conflicts: u64, formula: &'a str, proof: &'a str) -> Option<Reques
 // `--conflicts N`
 fn limit(option: &str, number: &str) -> Option<u64>
     ensures number { result ≡ limited_in option.now number.now }
-    ensures few { IfSome result (λ n. n ≤ 4294967295) }
+    ensures few { IfSome result (λ n. n ≤ Limits.CONFLICTS) }
 {
     if option != "--conflicts" {
         return None;
@@ -96,7 +92,7 @@ fn is_option(word: &str) -> bool
 // The number of conflicts that a word writes.
 fn conflicts_in(word: &str) -> Option<u64>
     ensures number { result ≡ conflicts_in word.now }
-    ensures few { IfSome result (λ n. n ≤ 4294967295) }
+    ensures few { IfSome result (λ n. n ≤ Limits.CONFLICTS) }
 {
     let digits = word.as_bytes();
     if digits.is_empty() || (digits.len() > 1 && digits[0] == b'0') {
@@ -111,7 +107,7 @@ fn conflicts_in(word: &str) -> Option<u64>
             .saturating_mul(10)
             .saturating_add(u64::from(*digit - b'0'));
     }
-    if value > MOST_CONFLICTS {
+    if value > Limits::CONFLICTS {
         return None;
     }
     Some(value)

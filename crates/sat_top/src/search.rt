@@ -2,7 +2,7 @@
 ghost use Rattle.std.specs.Prelude.{◌≡◌, ◌+◌, ◌≤◌, ◌<◌, ◌^◌, ◌⊎◌, length, option_map, IfOk, IfErr, OnOk, OnErr};
 ghost use Rattle.gc0_io.specs.Causes.{Rose};
 ghost use Rattle.sat_check.specs.Clauses.{ClausesAreBelow, IsUnsatisfiable};
-ghost use Rattle.sat_search.specs.Searches.{IsSolution, IsRefutationWithin};
+ghost use Rattle.search_base.specs.Searches.{IsSolution, IsRefutationWithin};
 ghost use Rattle.sat_text.specs.LogTexts.{log_lines};
 ghost use Rattle.sat_top.specs.Told.{kept_as};
 ghost use Rattle.sat_top.specs.Requests.{asked_of};
@@ -10,14 +10,16 @@ ghost use Rattle.sat_top.specs.Lines.{satisfiable_text};
 ghost use Rattle.sat_top.specs.Outcomes.{Ends, IsFrontOf};
 
 use crate::answers::{answer, say};
+use crate::limits::Limits;
 use crate::log_file::{LogFault, write_log};
 use crate::request::Request;
 use crate::status::Status;
 use crate::target::Target;
 use gc0_io::Sink;
 use sat_check::{Entry, Log, refutation_is_sound};
-use sat_search::{Found, search};
-use sat_text::{Formula, up_to_empty, values_text};
+use sat_search::search;
+use sat_text::{Formula, FormulaLimits, up_to_empty, values_text};
+use search_base::Found;
 use std::alloc::{AllocError, Global};
 
 /// Searches, and writes the answer.
@@ -30,9 +32,9 @@ pub(crate) fn search_formula<P: Target, O: Sink, E: Sink>(
     err: &mut E,
 ) -> Status
     requires below { ClausesAreBelow formula.now.variables formula.now.clauses }
-    requires few_clauses { length formula.now.clauses ≤ 4294967295 }
-    requires few_variables { formula.now.variables ≤ 1000000 }
-    requires few_conflicts { request.conflicts ≤ 4294967295 }
+    requires few_clauses { length formula.now.clauses ≤ FormulaLimits.CLAUSES }
+    requires few_variables { formula.now.variables ≤ FormulaLimits.VARIABLES }
+    requires few_conflicts { request.conflicts ≤ Limits.CONFLICTS }
     ensures ends { Ends formula.now (asked_of request.entry) (record { out_before = O.faults out.old; out_after = O.faults out.new; err_before = E.faults err.old; err_after = E.faults err.new; proof_before = P.faults proof.old; proof_after = P.faults proof.new; out_old = O.taken out.old; out_new = O.taken out.new; err_old = E.taken err.old; err_new = E.taken err.new; file_old = P.file proof.old; file_new = P.file proof.new }) result }
     ensures proof_later { P.faults proof.old ≤ P.faults proof.new }
     ensures out_later { O.faults out.old ≤ O.faults out.new }
@@ -74,8 +76,8 @@ fn say_refuted<P: Target, O: Sink, E: Sink>(
     err: &mut E,
 ) -> Status
     requires refuted { IsRefutationWithin formula.now.variables formula.now.clauses request.conflicts log.now.entries }
-    requires few_clauses { length formula.now.clauses ≤ 4294967295 }
-    requires few_conflicts { request.conflicts ≤ 4294967295 }
+    requires few_clauses { length formula.now.clauses ≤ FormulaLimits.CLAUSES }
+    requires few_conflicts { request.conflicts ≤ Limits.CONFLICTS }
     ensures ends { Ends formula.now (asked_of request.entry) (record { out_before = O.faults out.old; out_after = O.faults out.new; err_before = E.faults err.old; err_after = E.faults err.new; proof_before = P.faults proof.old; proof_after = P.faults proof.new; out_old = O.taken out.old; out_new = O.taken out.new; err_old = E.taken err.old; err_new = E.taken err.new; file_old = P.file proof.old; file_new = P.file proof.new }) result }
     ensures proof_later { P.faults proof.old ≤ P.faults proof.new }
     ensures out_later { O.faults out.old ≤ O.faults out.new }

@@ -7,6 +7,7 @@ ghost use Rattle.sat_top.specs.Lines.{absent_line, bad_line};
 ghost use Rattle.sat_top.specs.Outcomes.{Answered, IsRight, IsComplete, Ends, Says};
 
 use crate::answers::{say, say_text};
+use crate::limits::Limits;
 use crate::request::{Request, request_of};
 use crate::search::search_formula;
 use crate::status::Status;
@@ -14,9 +15,6 @@ use crate::target::Target;
 use gc0_io::{Fetched, Files, Sink};
 use sat_text::{TextFault, one_formula, read};
 use std::alloc::{AllocError, Global};
-
-/// How many bytes a file with a formula may have.
-const MOST_BYTES: usize = 67_108_864;
 
 const USAGE: &[u8] = b"usage: sat_cli [--conflicts N] CNF [PROOF]\n";
 
@@ -93,7 +91,7 @@ fn serve<F: Files, P: Target, O: Sink, E: Sink>(
     let Some(request) = request_of(words) else {
         return say(err, USAGE, Status::Usage);
     };
-    let text = match files.fetch(alloc, request.formula, MOST_BYTES) {
+    let text = match files.fetch(alloc, request.formula, Limits::BYTES) {
         Fetched::Found(text) => text,
         Fetched::TooLong => return say(err, b"limit file\n", Status::Limit),
         Fetched::Absent => return say_text(

@@ -1,3 +1,5 @@
+//! What is counted of a query, and the line that says it.
+
 ghost use Rattle.std.specs.Prelude.{◌≡◌, IfOk, string_bytes};
 ghost use Rattle.solver_bench.specs.Families.{IsSorted};
 ghost use Rattle.solver_bench.specs.Lines.{IsLine, line_of};

@@ -1,3 +1,5 @@
+//! The families of queries that are measured.
+
 ghost use Rattle.std.specs.Prelude.{◌≡◌, IfSome};
 ghost use Rattle.solver_bench.specs.Families.{operator, IsSorted};
 

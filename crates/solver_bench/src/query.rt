@@ -1,3 +1,5 @@
+//! A query of a family.
+
 ghost use Rattle.std.specs.Prelude.{◌≡◌, ◌+◌, [], ◌∷◌, length, map, All, IfOk, OnOk};
 ghost use Rattle.word_terms.specs.declared.node.Sort.TheVariants.{Word32, Truth};
 ghost use Rattle.word_terms.specs.Tables.{term};

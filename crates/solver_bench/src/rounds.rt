@@ -1,3 +1,5 @@
+//! The rounds of a measurement.
+
 ghost use Rattle.solver_bench.specs.Families.{IsSorted};
 
 use crate::counts::Trouble;

@@ -12,7 +12,7 @@ use Rattle.word_terms.specs.declared.node.Node.TheVariants as node
 use Rattle.word_terms.specs.Terms.{value, truth_word}
 use Rattle.word_terms.specs.Tables.{Table, IsTable, term}
 use Rattle.word_terms.specs.Weights.{has, is_under, weight_of}
-use Rattle.word_terms.proofs.Marking.{HavePartsBefore-IsTable}
+use Rattle.word_terms.specs.Parts.{HavePartsBefore-IsTable}
 use Rattle.word_blast.specs.declared.blasted.Input.{Input}
 use Rattle.word_blast.specs.Bits.{number, least}
 use Rattle.word_blast.specs.Gates.{first_circuit, bit, bits, clause_true, all_true, Holds}

@@ -1,3 +1,4 @@
+-- The lemmas of this crate's proofs.
 pub mod Gating
 pub mod Building
 pub mod Chains

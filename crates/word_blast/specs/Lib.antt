@@ -1,3 +1,4 @@
+-- The definitions that the contracts cite.
 pub mod Gates
 pub mod Bits
 pub mod Groups

@@ -1,5 +1,6 @@
 -- Queries as contracts see them.
 use Rattle.std.specs.Prelude.{◌≡◌, ℕ, ◌<◌, ◌≤◌, ◌↔◌, ◌++◌, Bool, List, map}
+use Rattle.gc0_base.specs.declared.limits.TheConstants.Limits as limits
 use Rattle.gc0_base.specs.declared.word.Word.{Word}
 use Rattle.word_terms.specs.declared.node.TermId.{TermId}
 use Rattle.word_terms.specs.Terms.{IsValuation}
@@ -29,8 +30,8 @@ IsExact table truths falsehoods whole =
 
 -- a query of a weight that is small enough, or a weight that isn't
 abbrev pub IsWeighed : Table → List ℕ → List ℕ → Weighed → Type 0
-IsWeighed table truths falsehoods (weighed.Query q) = IsTable table × (whole_of q ≡ circuit table truths falsehoods) × (weight_of table.nodes (truths ++ falsehoods) ≤ 1000000)
-IsWeighed table truths falsehoods (weighed.TooLarge w) = (w ≡ weight_of table.nodes (truths ++ falsehoods)) × (1000000 < w)
+IsWeighed table truths falsehoods (weighed.Query q) = IsTable table × (whole_of q ≡ circuit table truths falsehoods) × (weight_of table.nodes (truths ++ falsehoods) ≤ limits.WEIGHT)
+IsWeighed table truths falsehoods (weighed.TooLarge w) = (w ≡ weight_of table.nodes (truths ++ falsehoods)) × (limits.WEIGHT < w)
 
 -- the words of an assignment's bits, by the symbols' numbers
 abbrev pub words_of : (ℕ → Bool) → List Input → List Word

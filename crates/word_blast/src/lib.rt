@@ -11,4 +11,4 @@ mod query;
 pub use blasted::Input;
 pub use gate::Gate;
 pub use laws::circuits_are_below;
-pub use query::{BlastRefusal, Clauses, MAX_WEIGHT, Query, blast, valuation_of};
+pub use query::{BlastRefusal, Clauses, Query, blast, valuation_of};

@@ -7,14 +7,11 @@ ghost use Rattle.word_blast.specs.Valuations.{AreTruths, FitSorts, IsReadFrom, a
 ghost use Rattle.word_blast.specs.Queries.{ids, whole_of, words_of, IsExact, IsWeighed};
 
 use crate::blasted::{Input, blast_terms};
-use gc0_base::Word;
+use gc0_base::{Limits, Word};
 use sat_check::Clause;
 use std::alloc::{AllocError, Global};
 use std::marker::Model;
 use word_terms::{TermId, Terms, Valuation, Words};
-
-/// The greatest weight of a query.
-pub const MAX_WEIGHT: u64 = 1_000_000;
 
 /// A list of clauses, which contracts see as the list of its items.
 #[derive(Drop)]
@@ -67,7 +64,7 @@ pub struct Query {
 /// Why there is no query.
 #[derive(Clone, Copy, Debug, PartialEq, Eq)]
 pub enum BlastRefusal {
-    /// The terms weigh so much, which is above `MAX_WEIGHT`.
+    /// The terms weigh so much, which is above `Limits::WEIGHT`.
     TooLarge(u64),
     /// Memory was wanting.
     Memory,
@@ -87,8 +84,8 @@ pub fn blast(
     ensures exact { IfOk result (λ q. IsExact terms.now (ids truths.now) (ids falsehoods.now) (whole_of q)) }
     ensures few { IfOk result (λ q. q.variables ≤ 4 * weight_of terms.now.nodes (ids truths.now ++ ids falsehoods.now) + 32 * leaves_of terms.now.nodes (ids truths.now ++ ids falsehoods.now) + 32) }
     ensures fit { IfOk result (λ q. FitSorts terms.now.sorts (whole_of q).inputs) }
-    ensures small { OnOk result (weight_of terms.now.nodes (ids truths.now ++ ids falsehoods.now) ≤ 1000000) }
-    ensures too_large { (w : ℕ) → result ≡ Err (BlastRefusal.TooLarge w) → (w ≡ weight_of terms.now.nodes (ids truths.now ++ ids falsehoods.now)) × (1000000 < w) }
+    ensures small { OnOk result (weight_of terms.now.nodes (ids truths.now ++ ids falsehoods.now) ≤ Limits.WEIGHT) }
+    ensures too_large { (w : ℕ) → result ≡ Err (BlastRefusal.TooLarge w) → (w ≡ weight_of terms.now.nodes (ids truths.now ++ ids falsehoods.now)) × (Limits.WEIGHT < w) }
 {
     match small_query(alloc, terms, truths, falsehoods) {
         Ok(Weighed::Query(query)) => Ok(query),
@@ -117,7 +114,7 @@ fn small_query(
     let mut roots = Vec::from_slice(alloc, truths)?;
     roots.extend_from_slice(falsehoods)?;
     let weight = terms.gates(&roots)?;
-    if weight > MAX_WEIGHT {
+    if weight > Limits::WEIGHT {
         return Ok(Weighed::TooLarge(weight));
     }
     let blast = blast_terms(alloc, terms, &roots)?;
@@ -177,6 +174,3 @@ fn number_of(bit: bool) -> u32
 {
     u32::from(bit)
 }
-
-#[cfg(test)]
-mod tests;

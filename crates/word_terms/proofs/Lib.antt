@@ -1,3 +1,4 @@
+-- The lemmas of this crate's proofs.
 pub mod Kept
 pub mod Marking
 pub mod Valued

@@ -6,9 +6,7 @@ use Rattle.std.proofs.Math.Seq.{take-suc, drop-cons}
 use Rattle.std.proofs.lemmas.Bool.Decides.{eqb_tells}
 use Rattle.word_terms.specs.declared.node.TermId.{TermId}
 use Rattle.word_terms.specs.declared.node.Node.{Node}
-use Rattle.word_terms.specs.declared.node.Node.TheVariants as node
-use Rattle.word_terms.specs.Tables.{Table, terms_of, IsTable, IsWhole}
-use Rattle.word_terms.specs.Weights.{has, mark_at, Marks, Adds, HavePartsBefore, parts, wanted_from, weight_from, node_weight}
+use Rattle.word_terms.specs.Weights.{has, mark_at, Marks, Adds, parts, wanted_from, weight_from, node_weight}
 
 has-append : (xs ys : List ℕ) (t : ℕ) → has (xs ++ ys) t ≡ (has xs t || has ys t)
 has-append xs ys t = list_any-append (eqb t) xs ys
@@ -112,21 +110,3 @@ pub wanted-lower : (nodes : List Node) (roots : List ℕ) (marks : List Bool) (i
 wanted-lower nodes roots marks i h m =
     let e : i ≡ suc (i - 1) = omega arith in
     subst (λ k. Marks (wanted_from k (drop k nodes) roots) (length nodes) marks) e m
-
--- in a table the parts of each node stand before it
-pub HavePartsBefore-IsTable : (t : Table) → IsTable t → HavePartsBefore t.nodes
-HavePartsBefore-IsTable t ok i n at = by n (ok.whole i n at)
-  where
-    by : (n : Node) → IsWhole t.sorts (terms_of t.nodes) i n → (k d : ℕ) → k < length (parts n) → get_or (parts n) k d < i
-    by (node.Symbol x s) w k d h = absurd (omega arith)
-    by (node.Constant x) w k d h = absurd (omega arith)
-    by (node.Truth b) w k d h = absurd (omega arith)
-    by (node.Unary op a) w zero d h = w.0
-    by (node.Unary op a) w (suc k) d h = absurd (omega arith)
-    by (node.Binary op a b) w zero d h = w.0
-    by (node.Binary op a b) w (suc zero) d h = w.1
-    by (node.Binary op a b) w (suc (suc k)) d h = absurd (omega arith)
-    by (node.Choose c a b) w zero d h = w.0
-    by (node.Choose c a b) w (suc zero) d h = w.1
-    by (node.Choose c a b) w (suc (suc zero)) d h = w.2
-    by (node.Choose c a b) w (suc (suc (suc k))) d h = absurd (omega arith)

@@ -1,3 +1,5 @@
+//! What terms are worth under a valuation.
+
 ghost use Rattle.std.specs.Prelude.{◌≡◌, ◌<◌, ◌≤◌, length, map};
 ghost use Rattle.word_terms.specs.Terms.{truth_word, unary_value, binary_value};
 ghost use Rattle.word_terms.specs.Tables.{terms_of};

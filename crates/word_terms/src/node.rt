@@ -1,3 +1,5 @@
+//! The nodes of terms.
+
 use std::hash::{Hash, Hasher};
 
 /// What a term stands for: a word of 32 bits, or a truth.

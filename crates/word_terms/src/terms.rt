@@ -1,3 +1,5 @@
+//! The table of terms, in which each stands once.
+
 ghost use Rattle.std.specs.Prelude.{◌≡◌, ◌<◌, [], ◌∷◌, ◌++◌, length, slice_get, IfOk, OnOk, OnErr};
 ghost use Rattle.word_terms.specs.Terms.{symbol, TakesOne, TakesTwo, TakesThree, sort_of};
 ghost use Rattle.word_terms.specs.Tables.{terms_of, term, term_of, IsWhole, IsTable, Gives};

@@ -1,3 +1,5 @@
+//! Valuations of symbols.
+
 ghost use Rattle.std.specs.Prelude.{◌≡◌};
 
 use gc0_base::Word;

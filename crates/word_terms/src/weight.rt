@@ -1,3 +1,5 @@
+//! The weight of terms.
+
 ghost use Rattle.std.specs.Prelude.{◌≡◌, ◌<◌, ◌≤◌, ◌^◌, if◌then◌else◌, false, replicate, map, length, All, IfOk};
 ghost use Rattle.word_terms.specs.Weights.{weight_of, weight_from, mark_at, node_weight, unary_weight, binary_weight, parts, IsMarked, Adds, HavePartsBefore};
 

@@ -1,3 +1,5 @@
+//! Tests of the values of terms.
+
 use super::*;
 
 // Each operator at edge words: 0, 1, -1, the least and the greatest integer, 31 and 32. The

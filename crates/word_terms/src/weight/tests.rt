@@ -1,3 +1,5 @@
+//! Tests of the weight of terms.
+
 ghost use Rattle.std.specs.Prelude.{◌≡◌, ◌<◌, length, IfOk};
 ghost use Rattle.word_terms.specs.declared.node.Sort.TheVariants.{Word32};
 ghost use Rattle.word_terms.specs.Terms.{sort_of};

@@ -1,7 +1,7 @@
 use Rattle.std.proofs.Common.{◌<◌, Bool, List, refl, ◌∙◌, ap, subst}
 use Rattle.sat_check.specs.declared.clause.Clause.{Clause}
 use Rattle.sat_check.specs.Clauses.{Satisfies}
-use Rattle.sat_search.specs.Searches.{assignment_of, IsSpent, IsRefutedByPropagation}
+use Rattle.search_base.specs.Searches.{assignment_of, IsSpent, IsRefutedByPropagation}
 use Rattle.word_blast.specs.Valuations.{assigned, IsReadFrom}
 use Rattle.word_blast.specs.Queries.{whole_of, words_of}
 use Rattle.entail.proofs.Deciding.{spent-asked}

@@ -7,7 +7,7 @@ use Rattle.sat_check.specs.declared.valuation.Valuation.{Valuation}
 use Rattle.sat_check.specs.Clauses.{opposite_of}
 use Rattle.sat_check.specs.Logs.{IsTautology}
 use Rattle.sat_check.specs.Marks.{Shows, IsSound}
-use Rattle.sat_check.proofs.Lists.{Contains-take}
+use Rattle.sat_check.specs.Literals.{Contains-take}
 use Rattle.sat_check.proofs.Walks.{shown_once, Shows-push, Shows-again}
 use Rattle.sat_check.proofs.checker.begins.Goals as goal
 use Rattle.sat_check.proofs.checker.begins.Goals.{in-False, in-Open}

@@ -7,8 +7,9 @@ use Rattle.std.proofs.lemmas.List.Elements.{Contains-get_or}
 use Rattle.sat_check.specs.declared.clause.Lit.{Lit}
 use Rattle.sat_check.specs.Clauses.{opposite_of}
 use Rattle.sat_check.specs.Logs.{HasNoValue}
-use Rattle.sat_check.proofs.Lists.{Contains-take, lit_test-true, lit_test-same}
-use Rattle.sat_check.proofs.Walks.{shown_once, SoFar-false, SoFar-open, Neither-true, Neither-two}
+use Rattle.sat_check.specs.Literals.{Contains-take, lit_test-true, lit_test-same}
+use Rattle.sat_check.specs.Laws.{SoFar-false, SoFar-open, Neither-true, Neither-two}
+use Rattle.sat_check.proofs.Walks.{shown_once}
 use Rattle.sat_check.proofs.checker.find.Goals as goal
 use Rattle.sat_check.proofs.checker.find.Goals.{in-False, in-Open+else-ne}
 

@@ -2,7 +2,7 @@ use Rattle.std.proofs.Common.{◌<◌, List, take, length}
 use Rattle.std.specs.Option.{ForSome}
 use Rattle.sat_check.specs.declared.clause.Lit.{Lit}
 use Rattle.sat_check.specs.Marks.{Shows}
-use Rattle.sat_check.proofs.Walks.{SoFar}
+use Rattle.sat_check.specs.Laws.{SoFar}
 use Rattle.sat_check.proofs.checker.find.Given as goal
 
 abbrev pub invariant-loop-lit : goal.invariant-loop-lit

@@ -7,8 +7,9 @@ use Rattle.sat_check.specs.declared.clause.Clause.{Clause}
 use Rattle.sat_check.specs.Clauses.{opposite_of}
 use Rattle.sat_check.specs.Logs.{known_before}
 use Rattle.sat_check.specs.Marks.{Shows}
-use Rattle.sat_check.proofs.Lists.{opposite-opposite}
-use Rattle.sat_check.proofs.Walks.{known_below, below_at, Refutes-unnamed, Refutes-neither, Refutes-all_false, Refutes-single}
+use Rattle.sat_check.specs.Literals.{opposite-opposite}
+use Rattle.sat_check.specs.Laws.{known_below, below_at}
+use Rattle.sat_check.proofs.Walks.{Refutes-unnamed, Refutes-neither, Refutes-all_false, Refutes-single}
 use Rattle.sat_check.proofs.checker.refutes.Goals as goal
 
 no_more : (hints : List ℕ) (i : ℕ) → i < length hints → drop (i + 1) hints ≡ [] → i + 1 ≡ length hints

@@ -5,7 +5,8 @@ use Rattle.std.proofs.lemmas.Option.{slice_get-get_or}
 use Rattle.std.proofs.lemmas.List.{take_more, take_all}
 use Rattle.sat_check.specs.declared.log.Entry.{Entry}
 use Rattle.sat_check.specs.Logs.{AllFollow, Follows, known_at}
-use Rattle.sat_check.proofs.Verdicts.{AllFollow-more, HasEmpty-push, HasEmpty-left, HasEmpty-push_cases}
+use Rattle.sat_check.specs.Laws.{HasEmpty-push}
+use Rattle.sat_check.proofs.Verdicts.{AllFollow-more, HasEmpty-left, HasEmpty-push_cases}
 use Rattle.sat_check.proofs.checker.verdict_of.Goals as goal
 use Rattle.sat_check.proofs.checker.verdict_of.Goals.{then-is_empty, else-is_empty}
 

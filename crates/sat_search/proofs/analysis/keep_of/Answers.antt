@@ -1,7 +1,7 @@
 use Rattle.std.proofs.Common.{◌<◌, get_or, take, false, arith, inl, inr}
 use Rattle.std.proofs.lemmas.List.{take_more, take_all}
 use Rattle.sat_check.specs.declared.clause.Lit.{Lit}
-use Rattle.sat_search.proofs.Walking.{KeepIs-none, KeepIs-later, KeepIs-sooner}
+use Rattle.sat_search.proofs.Gathered.{KeepIs-none, KeepIs-later, KeepIs-sooner}
 use Rattle.sat_search.proofs.analysis.keep_of.Goals as goal
 
 pub loop-lit-init : goal.loop-lit-init

@@ -20,5 +20,5 @@ returns c =
       c.in_ok-blast.ensures.formed,
       whole-is c.args.terms.now c.args.truths.now c.args.falsehoods.now c.deref-2.result.now f c.in_ok-blast.blast c.in_ok-parts.parts.variables c.from_vec.result c.in_ok-parts.parts.inputs.items
           c.in_ok-blast.ensures.circuit c.in_ok-parts.ensures.variables (c.from_vec.ensures ∙ c.in_ok-parts.ensures.clauses) c.in_ok-parts.ensures.inputs,
-      omega (arith, weight, c.if-weight-gt-MAX_WEIGHT.false),
+      omega (arith, weight, c.if-weight-gt-WEIGHT.false),
     )

@@ -2,7 +2,7 @@ use Rattle.std.proofs.Common.{◌∙◌, ℕ, ◌<◌, ◌++◌, List, length, o
 use Rattle.sat_check.specs.declared.clause.Lit.{Lit}
 use Rattle.sat_check.specs.Logs.{Refutes, known_before}
 use Rattle.sat_search.specs.Learning.{Learns, KeepIs}
-use Rattle.sat_search.proofs.Walking.{Learns-of, with_some}
+use Rattle.sat_search.proofs.Gathered.{Learns-of, with_some}
 use Rattle.sat_search.proofs.analysis.Analysis.learned.Goals as goal
 
 pub returns-clause-leveled : goal.returns-clause-leveled

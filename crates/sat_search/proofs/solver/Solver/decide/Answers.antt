@@ -2,13 +2,13 @@ use Rattle.std.proofs.Common.{◌≡◌, ◌∙◌, ℕ, ◌+◌, List, [], ◌�
 use Rattle.std.specs.List.{slice_get}
 use Rattle.std.proofs.lemmas.List.{length-append}
 use Rattle.sat_check.specs.Logs.{known_before}
-use Rattle.sat_search.specs.declared.trail.Step.{Step}
-use Rattle.sat_search.specs.declared.placed.PlacedTrail.{PlacedTrail}
-use Rattle.sat_search.specs.Trails.{falses_of}
-use Rattle.sat_search.specs.Watches.{AllGuarded}
-use Rattle.sat_search.specs.States.{IsState, IsAhead}
+use Rattle.search_base.specs.declared.trail.Step.{Step}
+use Rattle.search_state.specs.declared.placed.PlacedTrail.{PlacedTrail}
+use Rattle.search_base.specs.Trails.{falses_of}
+use Rattle.search_state.specs.Watches.{AllGuarded}
+use Rattle.search_state.specs.States.{IsState, IsAhead}
 use Rattle.sat_search.specs.Marks.{IsReady}
-use Rattle.sat_search.specs.Shelves.{IsShelf}
+use Rattle.search_state.specs.Shelves.{IsShelf}
 use Rattle.sat_search.specs.Turns.{Holds}
 use Rattle.sat_search.proofs.Keeping.{Holds-same, State-decide}
 use Rattle.sat_search.proofs.solver.Solver.decide.Goals as goal

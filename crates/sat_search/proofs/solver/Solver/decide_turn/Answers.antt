@@ -1,13 +1,13 @@
 use Rattle.std.proofs.Common.{◌≡◌, ◌∙◌, List, length, map, take, arith, sym, ap, subst}
 use Rattle.sat_check.specs.declared.log.Entry.{Entry}
 use Rattle.sat_check.specs.Logs.{known_before}
-use Rattle.sat_search.specs.declared.trail.Step.{Step}
-use Rattle.sat_search.specs.Trails.{falses_of, AllStuck}
-use Rattle.sat_search.specs.Watches.{AllGuarded}
-use Rattle.sat_search.proofs.Lists.{take_whole}
-use Rattle.sat_search.proofs.Settling.{steps_within}
+use Rattle.search_base.specs.declared.trail.Step.{Step}
+use Rattle.search_base.specs.Trails.{falses_of, AllStuck}
+use Rattle.search_state.specs.Watches.{AllGuarded}
+use Rattle.search_base.specs.Lists.{take_whole}
+use Rattle.search_base.specs.Settling.{steps_within}
 use Rattle.sat_search.proofs.Measures.{decided_less}
-use Rattle.sat_search.proofs.Guarding.{AllStuck-guarded}
+use Rattle.search_state.specs.Guarding.{AllStuck-guarded}
 use Rattle.sat_search.proofs.solver.Solver.decide_turn.Goals as goal
 
 pub returns-then-not-branch-clause-turn : goal.returns-then-not-branch-clause-turn

@@ -2,9 +2,9 @@ use Rattle.std.proofs.Common.{◌≡◌, ℕ, ◌+◌, ◌-◌, ◌<◌, List, S
 use Rattle.std.specs.List.{slice_get}
 use Rattle.std.proofs.lemmas.Bool.{cases_eq}
 use Rattle.std.proofs.lemmas.Option.{slice_get_within}
-use Rattle.sat_check.proofs.Lists.{at_within}
+use Rattle.sat_check.specs.Literals.{at_within}
 use Rattle.sat_check.specs.declared.clause.Lit.{Lit}
-use Rattle.sat_search.specs.declared.trail.Step.{Step}
+use Rattle.search_base.specs.declared.trail.Step.{Step}
 use Rattle.sat_search.proofs.Keeping.{Asserts}
 use Rattle.sat_search.proofs.solver.Solver.jump.Goals as goal
 

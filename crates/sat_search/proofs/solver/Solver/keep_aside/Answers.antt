@@ -1,10 +1,10 @@
 use Rattle.std.proofs.Common.{◌≡◌, ◌∙◌, ℕ, ◌+◌, true, false, List, length, refl, ap, subst}
 use Rattle.sat_check.specs.declared.clause.Lit.{Lit}
-use Rattle.sat_search.specs.declared.watches.Pair.{Pair}
+use Rattle.search_state.specs.declared.watches.Pair.{Pair}
 use Rattle.sat_search.specs.declared.solver.Solver.{Solver}
-use Rattle.sat_search.specs.Watches.{WatchesMore}
-use Rattle.sat_search.specs.Shelves.{IsCarded}
-use Rattle.sat_search.proofs.Pushing.{WatchesMore-none}
+use Rattle.search_state.specs.Watches.{WatchesMore}
+use Rattle.search_state.specs.Shelves.{IsCarded}
+use Rattle.search_state.specs.Growing.{WatchesMore-none}
 use Rattle.sat_search.proofs.Reducing.{KeptAside}
 use Rattle.sat_search.proofs.solver.Solver.keep_aside.Goals as goal
 

@@ -3,8 +3,8 @@ use Rattle.std.proofs.lemmas.Bool.{cases_order}
 use Rattle.sat_check.specs.declared.clause.Lit.{Lit}
 use Rattle.sat_check.specs.declared.log.Entry.{Entry}
 use Rattle.sat_check.specs.Logs.{known_before}
-use Rattle.sat_search.specs.declared.watches.Watches.{Watches}
-use Rattle.sat_search.specs.Watches.{WatchesMore}
+use Rattle.search_state.specs.declared.watches.Watches.{Watches}
+use Rattle.search_state.specs.Watches.{WatchesMore}
 use Rattle.sat_search.proofs.Moves.{asserting_below}
 use Rattle.sat_search.proofs.Keeping.{Kept}
 use Rattle.sat_search.proofs.solver.Solver.keep_entry.Goals as goal

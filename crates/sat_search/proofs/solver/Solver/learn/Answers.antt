@@ -4,7 +4,7 @@ use Rattle.sat_check.specs.declared.log.Entry.{Entry}
 use Rattle.sat_check.specs.Logs.{known_before}
 use Rattle.sat_search.specs.declared.solver.Solver.{Solver}
 use Rattle.sat_search.specs.Learning.{Learns}
-use Rattle.sat_search.specs.States.{IsStart}
+use Rattle.search_base.specs.Levels.{IsStart}
 use Rattle.sat_search.proofs.Keeping.{Holds-same}
 use Rattle.sat_search.proofs.Turning.{LearnedIs-same}
 use Rattle.sat_search.proofs.solver.Solver.learn.Goals as goal

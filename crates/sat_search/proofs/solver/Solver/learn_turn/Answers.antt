@@ -2,8 +2,8 @@ use Rattle.std.proofs.Common.{◌∙◌, ℕ, Some, None, arith, sym, subst}
 use Rattle.std.proofs.lemmas.Option.{same_Some, none-some}
 use Rattle.sat_check.specs.Logs.{known_before}
 use Rattle.sat_search.specs.declared.solver.Learning.{Learning}
-use Rattle.sat_search.specs.Trails.{falses_of}
-use Rattle.sat_search.specs.Propagation.{IsConflict}
+use Rattle.search_base.specs.Trails.{falses_of}
+use Rattle.search_base.specs.Propagation.{IsConflict}
 use Rattle.sat_search.specs.Turns.{LearnedIs, IsLearned}
 use Rattle.sat_search.proofs.Measures.{Goes, IsNearer-flags}
 use Rattle.sat_search.proofs.solver.Solver.learn_turn.Goals as goal

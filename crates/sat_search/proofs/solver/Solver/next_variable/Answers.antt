@@ -1,8 +1,8 @@
 use Rattle.std.proofs.Common.{◌≡◌, ◌∙◌, ◌<◌, List, Some, length, sym, ap, subst}
 use Rattle.std.specs.List.{slice_get}
-use Rattle.sat_check.proofs.Lists.{at_within}
-use Rattle.sat_search.specs.declared.trail.Slot.{Slot}
-use Rattle.sat_search.specs.declared.placed.PlacedTrail.{PlacedTrail}
+use Rattle.sat_check.specs.Literals.{at_within}
+use Rattle.search_base.specs.declared.trail.Slot.{Slot}
+use Rattle.search_state.specs.declared.placed.PlacedTrail.{PlacedTrail}
 use Rattle.sat_search.proofs.solver.Solver.next_variable.Goals as goal
 
 pub returns-clause-found : goal.returns-clause-found

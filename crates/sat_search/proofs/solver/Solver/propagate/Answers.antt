@@ -1,9 +1,9 @@
 use Rattle.std.proofs.Common.{ℕ, List, sym, subst}
 use Rattle.sat_check.specs.declared.log.Entry.{Entry}
 use Rattle.sat_check.specs.Logs.{known_before}
-use Rattle.sat_search.specs.Looks.{Propagates}
+use Rattle.search_state.specs.Looks.{Propagates}
 use Rattle.sat_search.specs.Marks.{IsReady}
-use Rattle.sat_search.specs.Shelves.{IsShelf}
+use Rattle.search_state.specs.Shelves.{IsShelf}
 use Rattle.sat_search.proofs.Keeping.{State-advance, AreCarded-flags}
 use Rattle.sat_search.proofs.solver.Solver.propagate.Goals as goal
 

@@ -1,6 +1,6 @@
 use Rattle.std.proofs.Common.{◌≡◌, ◌≤◌, length}
 use Rattle.sat_check.specs.Logs.{known_before}
-use Rattle.sat_search.specs.States.{Answers}
+use Rattle.search_state.specs.States.{Answers}
 use Rattle.sat_search.specs.Turns.{Holds, left_of}
 use Rattle.sat_search.proofs.solver.Solver.run.Given as goal
 

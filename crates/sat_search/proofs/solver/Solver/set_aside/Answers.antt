@@ -4,9 +4,9 @@ use Rattle.std.proofs.lemmas.Option.{slice_get-get_or}
 use Rattle.sat_check.specs.declared.clause.Lit.{Lit}
 use Rattle.sat_check.specs.declared.log.Entry.{Entry}
 use Rattle.sat_check.specs.Logs.{known_before}
-use Rattle.sat_search.specs.declared.watches.Pair.{Pair}
+use Rattle.search_state.specs.declared.watches.Pair.{Pair}
 use Rattle.sat_search.specs.declared.solver.Solver.{Solver}
-use Rattle.sat_search.specs.Shelves.{IsCarded}
+use Rattle.search_state.specs.Shelves.{IsCarded}
 use Rattle.sat_search.proofs.Reducing.{known_entry, SetAside}
 use Rattle.sat_search.proofs.solver.Solver.set_aside.Goals as goal
 

@@ -6,9 +6,9 @@ use Rattle.sat_check.specs.declared.clause.Lit.{Lit}
 use Rattle.sat_check.specs.declared.log.Entry.{Entry}
 use Rattle.sat_check.specs.Clauses.{AreBelow}
 use Rattle.sat_check.specs.Logs.{known_before, IsNew, IsRefutation, EntriesAreBelow}
-use Rattle.sat_search.specs.declared.watches.Pair.{Pair}
+use Rattle.search_state.specs.declared.watches.Pair.{Pair}
 use Rattle.sat_search.specs.declared.solver.Solver.{Solver}
-use Rattle.sat_search.specs.Shelves.{IsAside}
+use Rattle.search_state.specs.Shelves.{IsAside}
 use Rattle.sat_search.specs.Turns.{Holds, IsLearned}
 use Rattle.sat_search.proofs.Moves.{learned_below, learned_follows, refuted_push}
 use Rattle.sat_search.proofs.Turning.{has_level, Holds-shelf, settled_new, IsLearned-reduced, IsAhead-reduced, AllGuarded-reduced}

@@ -3,12 +3,12 @@ use Rattle.std.specs.List.{slice_get}
 use Rattle.std.proofs.lemmas.Option.{none-some}
 use Rattle.sat_check.specs.declared.log.Entry.{Entry}
 use Rattle.sat_check.specs.Logs.{known_before}
-use Rattle.sat_search.specs.States.{Answers}
+use Rattle.search_state.specs.States.{Answers}
 use Rattle.sat_search.specs.Marks.{IsReady}
-use Rattle.sat_search.specs.Shelves.{IsShelf}
+use Rattle.search_state.specs.Shelves.{IsShelf}
 use Rattle.std.proofs.lemmas.Bool.{false≢true}
-use Rattle.sat_search.proofs.Flags.{NoneIsAside-at, IsFirm-none}
-use Rattle.sat_search.proofs.Levels.{LevelsAre-none}
+use Rattle.search_state.specs.Flags.{NoneIsAside-at, IsFirm-none}
+use Rattle.search_base.specs.Leveling.{LevelsAre-none}
 use Rattle.sat_search.proofs.solver.Solver.start.Goals as goal
 
 pub first_conflict-requires-clause-trail : goal.first_conflict-requires-clause-trail

@@ -6,15 +6,15 @@ use Rattle.sat_check.specs.declared.clause.Clause.{Clause}
 use Rattle.sat_check.specs.declared.log.Entry.{Entry}
 use Rattle.sat_check.specs.Clauses.{AreBelow}
 use Rattle.sat_check.specs.Logs.{known_before, IsUnit}
-use Rattle.sat_check.proofs.Walks.{known_below, below_at}
-use Rattle.sat_search.specs.declared.trail.Slot.{Slot}
-use Rattle.sat_search.specs.declared.trail.Step.{Step}
-use Rattle.sat_search.specs.declared.watches.Pair.{Pair}
-use Rattle.sat_search.specs.declared.watches.Watches.{Watches}
+use Rattle.sat_check.specs.Laws.{known_below, below_at}
+use Rattle.search_base.specs.declared.trail.Slot.{Slot}
+use Rattle.search_base.specs.declared.trail.Step.{Step}
+use Rattle.search_state.specs.declared.watches.Pair.{Pair}
+use Rattle.search_state.specs.declared.watches.Watches.{Watches}
 use Rattle.sat_search.specs.declared.solver.Solver.{Solver}
-use Rattle.sat_search.specs.Trails.{Shows, falses_of}
-use Rattle.sat_search.specs.Watches.{IsPut}
-use Rattle.sat_search.specs.Beginning.{AreOpen}
+use Rattle.search_base.specs.Trails.{Shows, falses_of}
+use Rattle.search_state.specs.Watches.{IsPut}
+use Rattle.search_state.specs.Beginning.{AreOpen}
 use Rattle.sat_search.proofs.Retaking.{IsRetaken, Retaken, Cleared-taken, Asserted-taken}
 use Rattle.sat_search.proofs.solver.Solver.take_up.Goals as goal
 

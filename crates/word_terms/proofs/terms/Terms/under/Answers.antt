@@ -1,4 +1,4 @@
-use Rattle.word_terms.proofs.Marking.{HavePartsBefore-IsTable}
+use Rattle.word_terms.specs.Parts.{HavePartsBefore-IsTable}
 use Rattle.word_terms.proofs.terms.Terms.under.Goals as goal
 
 pub mark_under-requires-clause-parts : goal.mark_under-requires-clause-parts

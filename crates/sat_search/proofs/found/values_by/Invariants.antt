@@ -1,6 +1,0 @@
-use Rattle.std.proofs.Common.{◌≡◌, take}
-use Rattle.sat_search.specs.Trails.{values_of}
-use Rattle.sat_search.proofs.found.values_by.Given as goal
-
-abbrev pub invariant-loop-slot : goal.invariant-loop-slot
-invariant-loop-slot l = l.values.items ≡ values_of (take l.slot-index l.slots)

@@ -1,7 +1,0 @@
-use Rattle.std.proofs.Common.{take}
-use Rattle.std.specs.List.{All}
-use Rattle.sat_search.specs.Shelves.{IsMarked}
-use Rattle.sat_search.proofs.shelf.Shelf.are_marked.Given as goal
-
-abbrev pub invariant-loop-lit : goal.invariant-loop-lit
-invariant-loop-lit l = All (IsMarked l.self.marks.items) (take l.lit-index l.lits)
