@@ -1,3 +1,4 @@
+-- The definitions that the contracts cite.
 pub mod Operators
 pub mod Heaps
 pub mod Runs

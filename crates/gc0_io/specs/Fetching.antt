@@ -1,5 +1,6 @@
 -- What a fetch answers for files that may be told. This project's own.
-use Rattle.std.specs.Prelude.{◌≡◌, ℕ, ◌<◌, ◌≤◌, List, length, Option, Some, None}
+use Rattle.std.specs.Prelude.{◌≡◌, ℕ, ◌<◌, ◌≤◌, List, length, Option, Some, None, if◌then◌else◌}
+use Rattle.std.specs.Str.{bytes_eq}
 use Rattle.gc0_io.specs.declared.outside.Fetched.{Fetched}
 use Rattle.gc0_io.specs.declared.outside.Fetched.TheVariants.{Found, TooLong, Absent, Failed, Memory}
 use Rattle.gc0_io.specs.Causes.{Rose}
@@ -7,6 +8,15 @@ use Rattle.gc0_io.specs.Causes.{Rose}
 -- the contents of files by their names
 abbrev pub Contents : Type 0
 Contents = List ℕ → Option (List ℕ)
+
+-- what is there, or else this
+abbrev pub or_else : Option (List ℕ) → Option (List ℕ) → Option (List ℕ)
+or_else (Some content) other = Some content
+or_else None other = other
+
+-- these files and one more behind them: each other name keeps its file, and so does this one if it has a file
+abbrev pub with_file : Contents → (name content : List ℕ) → Contents
+with_file files name content asked = or_else (files asked) (if bytes_eq name asked then Some content else None)
 
 -- a fault comes only where the count rose
 abbrev pub FetchCause : ℕ → ℕ → Fetched → Type 0

@@ -1,3 +1,4 @@
+-- The definitions that the contracts cite.
 pub mod Causes
 pub mod Bytes
 pub mod Fetching

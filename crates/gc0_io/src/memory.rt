@@ -1,3 +1,4 @@
+//! Files, a source and a sink in memory, whose content is told.
 ghost use Rattle.std.specs.Prelude.{◌≡◌, ◌+◌, ◌^◌, ◌<◌, ◌≤◌, ℕ, Some, [], ◌∷◌, ◌++◌, List, Option, IfOk, IfSome, OnOk, OnErr, IsTrue, MatchOption, vec_len, vec_capacity, drop, length};
 ghost use Rattle.gc0_io.specs.Causes.{HasCause};
 ghost use Rattle.gc0_io.specs.Held.{content_in};
@@ -25,6 +26,7 @@ pub struct MemFiles {
 
 impl MemFiles {
     ghost use Rattle.std.specs.Prelude.{◌≡◌, None, ℕ, List, Some, OnErr, OnOk, ◌++◌, ◌∷◌, []};
+    ghost use Rattle.gc0_io.specs.Fetching.{with_file};
     ghost use Rattle.gc0_io.specs.Memory.{held_files, files_failing};
 
     /// No files.
@@ -39,9 +41,10 @@ impl MemFiles {
         }
     }
 
-    /// One more file, behind the others.
+    /// One more file, behind the others, which stay as they are.
     pub fn add(&mut self, name: &str, content: &[u8]) -> Result<(), AllocError>
         ensures ok { OnOk result (held_files self.old name.now ≡ None → held_files self.new name.now ≡ Some content.now) }
+        ensures files { OnOk result ((asked : List ℕ) → held_files self.new asked ≡ with_file (held_files self.old) name.now content.now asked) }
         ensures err { OnErr result ((name : List ℕ) → held_files self.new name ≡ held_files self.old name) }
     {
         let name = Items::from_slice(self.alloc, name.as_bytes())?;

@@ -1,3 +1,4 @@
+//! The outside as traits: files by name, bytes to read, a place to write bytes to.
 ghost use Rattle.std.specs.Prelude.{◌≡◌, ◌≤◌, ℕ, List, Option, length, IfOk, IfSome};
 ghost use Rattle.gc0_io.specs.Causes.{HasCause};
 ghost use Rattle.gc0_io.specs.Bytes.{Takes, TakesSome, TakesAll, Gives};

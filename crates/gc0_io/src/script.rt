@@ -1,3 +1,4 @@
+//! Which calls of a form in memory are to fail.
 ghost use Rattle.std.specs.Prelude.{◌≡◌, ◌≤◌, ◌+◌, ◌-◌, ◌^◌, min, false, [], ◌∷◌, ◌++◌, OnOk, OnErr, IsTrue, IfOk};
 ghost use Rattle.gc0_io.specs.Causes.{Rose};
 ghost use Rattle.gc0_io.specs.Scripts.{is_planned};

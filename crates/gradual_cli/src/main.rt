@@ -1,31 +1,26 @@
-//! The program: makes the real files, input and outputs, calls `gradual` with the words after
-//! the program's name, and exits with its status. All else is in `gradual_top`.
+//! The program: calls `gradual` with the words after the program's name and the real files,
+//! input and outputs, and exits with its status. All else is in `gradual_top`.
 #![tactic(auto)]
 
-mod real;
+ghost use Rattle.std.specs.Prelude.{codes};
+ghost use Rattle.gradual_top.specs.Outcomes.{Says};
 
+use gc0_io::{Sink, write_all};
 use gradual_top::{Status, gradual};
-use real::{Input, Output, RealFiles};
-use std::env;
+use real_devices::{Input, Output, RealFiles, WordsFault, words_of};
 use std::process::ExitCode;
 
 fn main(rt: HostRuntime) -> ExitCode {
-    let mut words = Vec::new(rt.alloc());
-    match env::args(&rt) {
-        Ok(args) => {
-            for word in args.skip(1) {
-                if words.push(word).is_err() {
-                    return ExitCode::from(Status::Memory.code());
-                }
-            }
-        }
-        // Words that are no text make no request: none of them is answered by the usage line.
-        Err(_) => words.clear(),
-    }
+    let mut err = Output::new(rt.stderr());
+    let words = match words_of(&rt) {
+        Ok(words) => words,
+        // Words that are no text make no request: the usage line answers none.
+        Err(WordsFault::NotText) => Vec::new(rt.alloc()),
+        Err(WordsFault::Memory) => return ExitCode::from(without_memory(&mut err).code()),
+    };
     let mut files = RealFiles::new(&rt);
     let mut input = Input::new(rt.stdin());
     let mut out = Output::new(rt.stdout());
-    let mut err = Output::new(rt.stderr());
     let status = gradual(
         rt.alloc(),
         &words,
@@ -35,4 +30,14 @@ fn main(rt: HostRuntime) -> ExitCode {
         &mut err,
     );
     ExitCode::from(status.code())
+}
+
+// There was not memory enough for the words: its line, and the status.
+fn without_memory<E: Sink>(err: &mut E) -> Status
+    ensures said { Says (E.faults err.old) (E.faults err.new) (E.taken err.old) (E.taken err.new) (codes "memory\n") Status.Memory result }
+{
+    match write_all(err, b"memory\n") {
+        Ok(()) => Status::Memory,
+        Err(_) => Status::WriteFault,
+    }
 }

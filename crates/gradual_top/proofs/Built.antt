@@ -14,20 +14,23 @@ use Rattle.c0_names.specs.declared.tables.Tables.{Tables}
 use Rattle.c0_names.specs.Names.{last_place}
 use Rattle.c0_names.specs.Tables.{signature_in, with_signature, value_type, param_types, result_type, head_signature, with_item, struct_names, tables_above, tables_of}
 use Rattle.c0_names.specs.Types.{int, bool, same_type}
-use Rattle.c0_rules.specs.declared.violation.Rule.TheVariants as rule
-use Rattle.c0_rules.specs.declared.violation.Violation.{Violation}
-use Rattle.c0_rules.specs.declared.scope.Standing.{Standing}
-use Rattle.c0_rules.specs.declared.scope.Scope.{Scope}
-use Rattle.c0_rules.specs.Violations.{unless}
-use Rattle.c0_rules.specs.Scopes.{no_scope, simple_behind, stmt_behind}
-use Rattle.c0_rules.specs.Expressions.{takes, expr_violations, value_violations}
-use Rattle.c0_rules.specs.Formulas.{invariants_violations}
+use Rattle.c0_value_rules.specs.declared.violation.Rule.TheVariants as rule
+use Rattle.c0_value_rules.specs.declared.violation.Violation.{Violation}
+use Rattle.c0_value_rules.specs.declared.scope.Standing.{Standing}
+use Rattle.c0_value_rules.specs.declared.scope.Scope.{Scope}
+use Rattle.c0_value_rules.specs.Violations.{unless}
+use Rattle.c0_value_rules.specs.Scopes.{no_scope}
+use Rattle.c0_rules.specs.Behind.{simple_behind, stmt_behind}
+use Rattle.c0_names.specs.Typing.{takes}
+use Rattle.c0_value_rules.specs.Expressions.{expr_violations, value_violations}
+use Rattle.c0_value_rules.specs.Formulas.{invariants_violations}
 use Rattle.c0_rules.specs.Statements.{held_violations, declared_violations, right_violations, target_violations, simple_violations, stmt_violations, stmts_violations}
 use Rattle.c0_rules.specs.Rules.{param_behind, params_scope, head_violations, ensured, contract_violations, function_violations, library_violations, second_violations, item_violations, items_violations, main_name, start, is_main, or_others, tables_before, violations}
-use Rattle.gc0_tree.specs.Tree as core
-use Rattle.c0_numbers.specs.declared.frame.Frame.{Frame}
-use Rattle.c0_numbers.specs.Texts.{Texts, expr_texts, stmt_texts, item_texts}
-use Rattle.c0_numbers.specs.Formulas.{side_contracts, invariants}
+use Rattle.gc0_tree.specs.Tree as gc0
+use Rattle.c0_value_numbers.specs.declared.frame.Frame.{Frame}
+use Rattle.c0_value_numbers.specs.Texts.{Texts, expr_texts}
+use Rattle.c0_numbers.specs.StatementTexts.{stmt_texts, item_texts}
+use Rattle.c0_value_numbers.specs.Formulas.{side_contracts, invariants}
 use Rattle.c0_numbers.specs.Statements.{stmt_frame, simple_tree, note_form, notes_tree, before, stmt_tree, stmts_tree}
 use Rattle.c0_numbers.specs.Resolved.{params_of, result_shape, function_tree, functions_tree, resolved}
 use Rattle.stack_code.specs.Built.{Takes, IsBuiltTree, AreBuiltTrees, IsBuiltFunction, AreBuiltFunctions, IsBuilt}
@@ -61,18 +64,18 @@ stmt_even t scope (notes_stmt p ns) g v = v
 stmt_even t scope s g v = absurd g
 
 -- ---- statements
-note_built : (fs : List core.Function) (u : Tables) (f : Frame) (p : Place) (n : NoteForm) → IsBuiltNote (record { place = p; form = n }) → code.IsBuiltStmt fs (note_form u f p n)
-note_built fs u f p (assert_note g) b = optional_built u f false g b core.no_parts tt
+note_built : (fs : List gc0.Function) (u : Tables) (f : Frame) (p : Place) (n : NoteForm) → IsBuiltNote (record { place = p; form = n }) → code.IsBuiltStmt fs (note_form u f p n)
+note_built fs u f p (assert_note g) b = optional_built u f false g b gc0.no_parts tt
 note_built fs u f p (fold_note i) b = absurd b
 note_built fs u f p (unfold_note i) b = absurd b
 
-before_built : (fs : List core.Function) (u : Tables) (f : Frame) (s : StmtTree) → IsBuiltStmt s → (x : core.Stmt) → code.IsBuiltStmt fs x → (rest : core.Stmts) → code.AreBuiltStmts fs rest → code.AreBuiltStmts fs (before u f s x rest)
+before_built : (fs : List gc0.Function) (u : Tables) (f : Frame) (s : StmtTree) → IsBuiltStmt s → (x : gc0.Stmt) → code.IsBuiltStmt fs x → (rest : gc0.Stmts) → code.AreBuiltStmts fs rest → code.AreBuiltStmts fs (before u f s x rest)
 before_built fs u f (notes_stmt p []) g x b rest c = absurd g
 before_built fs u f (notes_stmt p (n ∷ [])) g x b rest c = (note_built fs u f n.place n.form g, c)
 before_built fs u f (notes_stmt p (n ∷ m ∷ ns)) g x b rest c = absurd g
 before_built fs u f s g x b rest c = (b, c)
 
-simple_built : (fs : List core.Function) (t u : Tables) → Known fs t u → (scope : Scope) → IsEven scope → (f : Frame) (ts : Texts) (s : SimpleTree) → IsBuiltSimple s → simple_violations t scope s ≡ [] → code.IsBuiltStmt fs (simple_tree u f ts s)
+simple_built : (fs : List gc0.Function) (t u : Tables) → Known fs t u → (scope : Scope) → IsEven scope → (f : Frame) (ts : Texts) (s : SimpleTree) → IsBuiltSimple s → simple_violations t scope s ≡ [] → code.IsBuiltStmt fs (simple_tree u f ts s)
 simple_built fs t u known scope v f ts (declare ty n (Some x)) g h =
     let a = held_violations t ty in
     let b = declared_violations scope n in
@@ -86,7 +89,7 @@ simple_built fs t u known scope v f ts (plain e) g h = plain_built fs t u known 
 simple_built fs t u known scope v f ts s g h = absurd g
 
 mutual
-  stmt_built : (fs : List core.Function) (t u : Tables) → Known fs t u → (r : ValueType) (scope : Scope) → IsEven scope → (f : Frame) (ts : Texts) (s : StmtTree) → IsBuiltStmt s → stmt_violations t r scope s ≡ [] → code.IsBuiltStmt fs (stmt_tree u f ts s)
+  stmt_built : (fs : List gc0.Function) (t u : Tables) → Known fs t u → (r : ValueType) (scope : Scope) → IsEven scope → (f : Frame) (ts : Texts) (s : StmtTree) → IsBuiltStmt s → stmt_violations t r scope s ≡ [] → code.IsBuiltStmt fs (stmt_tree u f ts s)
   stmt_built fs t u known r scope v f ts (simple_stmt s) g h = simple_built fs t u known scope v f ts s g h
   stmt_built fs t u known r scope v f ts (if_stmt p e (block_stmt q ss) no_stmts) g h =
       let a = value_violations t scope None bool e in
@@ -108,7 +111,7 @@ mutual
   stmt_built fs t u known r scope v f ts (notes_stmt p (n ∷ [])) g h = note_built fs u f n.place n.form g
   stmt_built fs t u known r scope v f ts s g h = absurd g
 
-  stmts_built : (fs : List core.Function) (t u : Tables) → Known fs t u → (r : ValueType) (scope : Scope) → IsEven scope → (f : Frame) (ts : Texts) (ss : StmtTrees) → AreBuiltStmts ss → stmts_violations t r scope ss ≡ [] → code.AreBuiltStmts fs (stmts_tree u f ts ss)
+  stmts_built : (fs : List gc0.Function) (t u : Tables) → Known fs t u → (r : ValueType) (scope : Scope) → IsEven scope → (f : Frame) (ts : Texts) (ss : StmtTrees) → AreBuiltStmts ss → stmts_violations t r scope ss ≡ [] → code.AreBuiltStmts fs (stmts_tree u f ts ss)
   stmts_built fs t u known r scope v f ts no_stmts g h = tt
   stmts_built fs t u known r scope v f ts (stmt_and s ss) g h =
       let a = stmt_violations t r scope s in
@@ -116,22 +119,22 @@ mutual
       before_built fs u f s g.0 (stmt_tree u f ts s) (stmt_built fs t u known r scope v f ts s g.0 (left_none a b h)) (stmts_tree u (stmt_frame u f s) (stmt_texts ts s) ss) (stmts_built fs t u known r (stmt_behind t scope s) (stmt_even t scope s g.0 v) (stmt_frame u f s) (stmt_texts ts s) ss g.1 (right_none a b h))
 
 -- ---- a body ends in a `return`
-abbrev Ends : core.Stmts → Type 0
+abbrev Ends : gc0.Stmts → Type 0
 Ends ss = IsTrue (code.ends_in_return ss)
 
-last_ends : (u : Tables) (f : Frame) (ts : Texts) (s : StmtTree) → is_return s ≡ true → Ends (before u f s (stmt_tree u f ts s) core.no_stmts)
+last_ends : (u : Tables) (f : Frame) (ts : Texts) (s : StmtTree) → is_return s ≡ true → Ends (before u f s (stmt_tree u f ts s) gc0.no_stmts)
 last_ends u f ts (return_stmt p e) h = refl
 last_ends u f ts s h = let n : ⊥ = cc in absurd n
 
-behind_ends : (x : core.Stmt) (rest : core.Stmts) → Ends rest → Ends (core.stmt_and x rest)
-behind_ends x core.no_stmts h = let n : ⊥ = cc in absurd n
-behind_ends x (core.stmt_and y ss) h = h
+behind_ends : (x : gc0.Stmt) (rest : gc0.Stmts) → Ends rest → Ends (gc0.stmt_and x rest)
+behind_ends x gc0.no_stmts h = let n : ⊥ = cc in absurd n
+behind_ends x (gc0.stmt_and y ss) h = h
 
-notes_end : (u : Tables) (f : Frame) (ns : List NoteTree) (rest : core.Stmts) → Ends rest → Ends (notes_tree u f ns rest)
+notes_end : (u : Tables) (f : Frame) (ns : List NoteTree) (rest : gc0.Stmts) → Ends rest → Ends (notes_tree u f ns rest)
 notes_end u f [] rest h = h
 notes_end u f (n ∷ ns) rest h = behind_ends (note_form u f n.place n.form) (notes_tree u f ns rest) (notes_end u f ns rest h)
 
-before_ends : (u : Tables) (f : Frame) (s : StmtTree) (x : core.Stmt) (rest : core.Stmts) → Ends rest → Ends (before u f s x rest)
+before_ends : (u : Tables) (f : Frame) (s : StmtTree) (x : gc0.Stmt) (rest : gc0.Stmts) → Ends rest → Ends (before u f s x rest)
 before_ends u f (notes_stmt p ns) x rest h = notes_end u f ns rest h
 before_ends u f s x rest h = behind_ends x rest h
 
@@ -163,7 +166,7 @@ second_none t above h cs ss e n =
     let b = second_violations above.functions.names h.name in
     kept (not (is_some (last_place above.functions.names h.name.name))) rule.Twice h.name.place (left_none b _ (right_none a _ n))
 
-functions_built : (fs : List core.Function) (t u : Tables) → Known fs t u → (above : Tables) (ts : Texts) (is : List ItemTree) → AreAll IsBuiltItem is → items_violations t above is ≡ [] → AreBuiltFunctions fs (functions_tree u ts is)
+functions_built : (fs : List gc0.Function) (t u : Tables) → Known fs t u → (above : Tables) (ts : Texts) (is : List ItemTree) → AreAll IsBuiltItem is → items_violations t above is ≡ [] → AreBuiltFunctions fs (functions_tree u ts is)
 functions_built fs t u known above ts [] g n = tt
 functions_built fs t u known above ts (function_item h cs ss e ∷ is) g n =
     let i = g.0 in
@@ -184,13 +187,13 @@ functions_built fs t u known above ts (function_item h cs ss e ∷ is) g n =
 functions_built fs t u known above ts (i ∷ is) g n = absurd g.0
 
 -- ---- the functions of the tables stand at their numbers, since no name is defined twice: for each signature a function with as many parameters
-abbrev Aligned : List Signature → List core.Function → Type 0
+abbrev Aligned : List Signature → List gc0.Function → Type 0
 Aligned [] [] = Unit {0}
 Aligned [] (f ∷ fs) = ⊥
 Aligned (s ∷ ss) [] = ⊥
 Aligned (s ∷ ss) (f ∷ fs) = (f.params ≡ length s.params) × Aligned ss fs
 
-one_aligned : (ss : List Signature) (fs : List core.Function) (s : Signature) (f : core.Function) → Aligned ss fs → f.params ≡ length s.params → Aligned (ss ++ s ∷ []) (fs ++ f ∷ [])
+one_aligned : (ss : List Signature) (fs : List gc0.Function) (s : Signature) (f : gc0.Function) → Aligned ss fs → f.params ≡ length s.params → Aligned (ss ++ s ∷ []) (fs ++ f ∷ [])
 one_aligned [] [] s f a e = (e, tt)
 one_aligned [] (g ∷ fs) s f a e = absurd a
 one_aligned (r ∷ ss) [] s f a e = absurd a
@@ -207,7 +210,7 @@ otherwise false x y h = refl
 signed : (c : Callables) (name : List ℕ) (s : Signature) → not (is_some (last_place c.names name)) ≡ true → (with_signature c name s).signatures ≡ c.signatures ++ s ∷ []
 signed c name s h = ap (λ d. d.signatures) (otherwise (is_some (last_place c.names name)) c (record { names = c.names ++ name ∷ []; signatures = c.signatures ++ s ∷ [] }) h)
 
-all_aligned : (t u above : Tables) (ts : Texts) (is : List ItemTree) (fs : List core.Function) → AreAll IsBuiltItem is → items_violations t above is ≡ [] → Aligned above.functions.signatures fs → Aligned (fold with_item above is).functions.signatures (fs ++ functions_tree u ts is)
+all_aligned : (t u above : Tables) (ts : Texts) (is : List ItemTree) (fs : List gc0.Function) → AreAll IsBuiltItem is → items_violations t above is ≡ [] → Aligned above.functions.signatures fs → Aligned (fold with_item above is).functions.signatures (fs ++ functions_tree u ts is)
 all_aligned t u above ts [] fs g n a = subst (Aligned above.functions.signatures) (sym (append-nil fs)) a
 all_aligned t u above ts (function_item h cs ss e ∷ is) fs g n a =
     let item = function_item h cs ss e in
@@ -221,18 +224,18 @@ all_aligned t u above ts (function_item h cs ss e ∷ is) fs g n a =
     subst (Aligned (fold with_item next is).functions.signatures) (append_assoc fs (f ∷ []) (functions_tree u (item_texts ts item) is)) (all_aligned t u next (item_texts ts item) is (fs ++ f ∷ []) g.1 (right_none b c n) more)
 all_aligned t u above ts (i ∷ is) fs g n a = absurd g.0
 
-at_number : (ss : List Signature) (fs : List core.Function) → Aligned ss fs → (i n : ℕ) → takes (slice_get ss i) n ≡ true → Takes (slice_get fs i) n
+at_number : (ss : List Signature) (fs : List gc0.Function) → Aligned ss fs → (i n : ℕ) → takes (slice_get ss i) n ≡ true → Takes (slice_get fs i) n
 at_number [] [] a i n h = let x : ⊥ = cc in absurd x
 at_number [] (f ∷ fs) a i n h = absurd a
 at_number (s ∷ ss) [] a i n h = absurd a
 at_number (s ∷ ss) (f ∷ fs) a zero n h = a.0 ∙ eqb-true (length s.params) n h
 at_number (s ∷ ss) (f ∷ fs) a (suc i) n h = at_number ss fs a.1 i n h
 
-at_place : (ss : List Signature) (fs : List core.Function) → Aligned ss fs → (i : Option ℕ) (n : ℕ) → takes (option_and_then (slice_get ss) i) n ≡ true → Takes (slice_get fs (unwrap_or i 0)) n
+at_place : (ss : List Signature) (fs : List gc0.Function) → Aligned ss fs → (i : Option ℕ) (n : ℕ) → takes (option_and_then (slice_get ss) i) n ≡ true → Takes (slice_get fs (unwrap_or i 0)) n
 at_place ss fs a None n h = let x : ⊥ = cc in absurd x
 at_place ss fs a (Some i) n h = at_number ss fs a i n h
 
-all_known : (fs : List core.Function) (u : Tables) → Aligned u.functions.signatures fs → Known fs u u
+all_known : (fs : List gc0.Function) (u : Tables) → Aligned u.functions.signatures fs → Known fs u u
 all_known fs u a name n h = at_place u.functions.signatures fs a (last_place u.functions.names name) n h
 
 -- ---- programs

@@ -3,47 +3,39 @@ use Rattle.std.proofs.Common.{◌≡◌, List, ℕ, [], ◌∷◌, map, refl, sy
 use Rattle.std.specs.Prelude.{◌⊎◌, ◌++◌, ◌≢◌}
 use Rattle.std.specs.Option.{option_map}
 use Rattle.gc0_base.specs.declared.place.Place.{Place}
-use Rattle.gc0_base.specs.Places.{place_after}
 use Rattle.c0_lex.specs.declared.token.Token.{Token as LexToken}
 use Rattle.c0_lex.specs.declared.fault.LexFault.{LexFault}
 use Rattle.c0_lex.specs.declared.fault.LexFault.TheVariants as lex
-use Rattle.c0_lex.specs.Texts.{Lexeme, lexeme_of, end_at, start, tokens_of, HasTokens, HasFault, HasCause as HasLexCause}
+use Rattle.c0_lex.specs.Texts.{lexeme_of, HasTokens, HasFault, HasCause as HasLexCause}
 use Rattle.parsed_tree.specs.Tree.{ProgramTree}
-use Rattle.c0_grammar.specs.Seen.{seen, all_seen}
+use Rattle.c0_grammar.specs.Seen.{all_seen}
+use Rattle.c0_grammar.specs.Lexemes.{seen_read, read_ends_last}
 use Rattle.c0_grammar.specs.Reads.{Reads, EndsLast}
 use Rattle.c0_parse.specs.declared.fault.ParseFault.{ParseFault}
 use Rattle.c0_parse.specs.declared.fault.ParseFault.TheVariants as parse
 use Rattle.c0_parse.specs.TreeFaults.{tree_faults}
 use Rattle.c0_parse.specs.Causes.{HasCause}
-use Rattle.c0_rules.specs.declared.violation.TypeFault.{TypeFault}
-use Rattle.c0_rules.specs.declared.violation.TypeFault.TheVariants as typed
-use Rattle.c0_rules.specs.Violations.{least_of, fault_of, Reports}
+use Rattle.c0_value_rules.specs.declared.violation.TypeFault.{TypeFault}
+use Rattle.c0_value_rules.specs.declared.violation.TypeFault.TheVariants as typed
+use Rattle.c0_value_rules.specs.Violations.{least_of, fault_of, Reports}
 use Rattle.c0_rules.specs.Rules.{violations}
 use Rattle.built_text.specs.Tree.{ProgramTree as SmallTree}
 use Rattle.built_text.specs.Tokens.{built_lexeme, built, all_built, EndsLast as SmallEndsLast, CutEndsLast}
 use Rattle.built_text.specs.Grammar.{IsProgram}
 use Rattle.built_text.specs.Reads.{FirstFault}
-use Rattle.gradual_top.specs.Source.{grammar_token, grammar_tokens, small_tokens, HasTree, HasParseFault, IsSmall, IsUnbuilt, lexical, parsing, typing}
+use Rattle.gradual_top.specs.Source.{most_nodes, small_tokens, HasTree, HasParseFault, IsSmall, IsUnbuilt, lexical, parsing, typing}
 use Rattle.gradual_top.specs.declared.status.Status.TheVariants.{Refused}
 use Rattle.gradual_top.specs.Lines.{lexical_line, parse_line, parse_status, type_line}
 use Rattle.gradual_top.specs.Outcomes.{Outputs, Refuses, TextAnswered}
 
 -- ---- tokens and lexemes
-pub grammar_seen : (ts : List LexToken) → all_seen ts ≡ grammar_tokens (map lexeme_of ts)
-grammar_seen [] = refl
-grammar_seen (t ∷ ts) = ap (λ l. grammar_token (lexeme_of t) ∷ l) (grammar_seen ts)
-
 pub small_seen : (ts : List LexToken) → all_built ts ≡ small_tokens (map lexeme_of ts)
 small_seen [] = refl
 small_seen (t ∷ ts) = ap (λ l. built_lexeme (lexeme_of t) ∷ l) (small_seen ts)
 
 -- ---- the end of the text stands last
-pub grammar_ends : (front : List Lexeme) (place : Place) → EndsLast (grammar_tokens (front ++ end_at place ∷ []))
-grammar_ends [] place = record { front = []; last = place; split = refl }
-grammar_ends (l ∷ front) place = let x = grammar_ends front place in record { front = grammar_token l ∷ x.front; last = x.last; split = ap (λ ts. grammar_token l ∷ ts) x.split }
-
 pub ends : (text : List ℕ) (ts : List LexToken) → HasTokens text (map lexeme_of ts) → EndsLast (all_seen ts)
-ends text ts has = subst EndsLast (sym (grammar_seen ts)) (subst (λ x. EndsLast (grammar_tokens x)) has.listed (grammar_ends (tokens_of start has.pieces) (place_after text)))
+ends text ts has = subst EndsLast (sym (seen_read ts)) (read_ends_last text (map lexeme_of ts) has)
 
 pub ends_small : CutEndsLast → (text : List ℕ) (ts : List LexToken) → HasTokens text (map lexeme_of ts) → SmallEndsLast (all_built ts)
 ends_small law text ts has = subst SmallEndsLast (sym (small_seen ts)) (law text (map lexeme_of ts) has)
@@ -61,7 +53,7 @@ lexical_cause text lex.Memory n c = absurd (n refl)
 
 -- the fault of these tokens is the text's
 parse_fault : (text : List ℕ) (ts : List LexToken) (f : ParseFault) → HasTokens text (map lexeme_of ts) → HasCause (all_seen ts) f → HasParseFault text f
-parse_fault text ts f has c = record { lexemes = map lexeme_of ts; tokens = has; cause = subst (λ l. HasCause l f) (grammar_seen ts) c }
+parse_fault text ts f has c = record { lexemes = map lexeme_of ts; tokens = has; cause = subst (λ l. HasCause l f) (seen_read ts) c }
 
 pub lexical_answer : (text : List ℕ) (n : ℕ) (o : Outputs) (f : LexFault) → f ≢ lex.Memory → HasLexCause text f → Refuses o (lexical_line f) → TextAnswered text n o Refused
 lexical_answer text n o f x c r = record { refusal = lexical f; cause = lexical_cause text f x c; says = r }
@@ -73,8 +65,8 @@ parse_answer text ts n o (parse.ContractOnPrototype p) x has c r = record { refu
 parse_answer text ts n o (parse.DeepRead p) x has c r = record { refusal = parsing (parse.DeepRead p); cause = parse_fault text ts (parse.DeepRead p) has c; says = r }
 parse_answer text ts n o parse.Memory x has c r = absurd (x refl)
 
-pub has_tree : (text : List ℕ) (ts : List LexToken) (p : ProgramTree) → HasTokens text (map lexeme_of ts) → Reads 100 (all_seen ts) p → HasTree text p
-has_tree text ts p has r = record { lexemes = map lexeme_of ts; tokens = has; reads = subst (λ l. Reads 100 l p) (grammar_seen ts) r }
+pub has_tree : (text : List ℕ) (ts : List LexToken) (p : ProgramTree) → HasTokens text (map lexeme_of ts) → Reads most_nodes (all_seen ts) p → HasTree text p
+has_tree text ts p has r = record { lexemes = map lexeme_of ts; tokens = has; reads = subst (λ l. Reads most_nodes l p) (seen_read ts) r }
 
 pub small : (text : List ℕ) (ts : List LexToken) (p : SmallTree) → HasTokens text (map lexeme_of ts) → IsProgram (all_built ts) p → IsSmall text
 small text ts p has g = record { lexemes = map lexeme_of ts; tokens = has; tree = p; program = subst (λ l. IsProgram l p) (small_seen ts) g }

@@ -6,19 +6,20 @@ use Rattle.parsed_tree.specs.Tree.{ProgramTree}
 use Rattle.c0_grammar.specs.Tokens.{Token}
 use Rattle.c0_grammar.specs.Grammar.{IsProgram}
 use Rattle.c0_grammar.specs.Reads.{Reads, Splits, FirstSyntax, FirstDeep}
+use Rattle.gradual_top.specs.Source.{most_nodes}
 
 -- the first token with which no program begins that is not too deep
 pub record First (ts : List Token) (at : Place) : Type 0 where
   pub before : List Token
   pub bad : Token
   pub splits : Splits ts before bad at
-  pub can_be : (more : List Token) × (p : ProgramTree) × Reads 100 (before ++ more) p
-  pub none : (more : List Token) (p : ProgramTree) → Reads 100 ((before ++ bad ∷ []) ++ more) p → ⊥
+  pub can_be : (more : List Token) × (p : ProgramTree) × Reads most_nodes (before ++ more) p
+  pub none : (more : List Token) (p : ProgramTree) → Reads most_nodes ((before ++ bad ∷ []) ++ more) p → ⊥
 
-pub of_syntax : (ts : List Token) (at : Place) → FirstSyntax 100 ts at → First ts at
+pub of_syntax : (ts : List Token) (at : Place) → FirstSyntax most_nodes ts at → First ts at
 of_syntax ts at f = record { before = f.before; bad = f.bad; splits = f.splits; can_be = f.can_be; none = λ more p r. f.none (more, p, r.nodes, r.program) }
 
-pub of_deep : (ts : List Token) (at : Place) → FirstDeep 100 ts at → First ts at
+pub of_deep : (ts : List Token) (at : Place) → FirstDeep most_nodes ts at → First ts at
 of_deep ts at f = record { before = f.before; bad = f.bad; splits = f.splits; can_be = f.can_be; none = λ more p r. let deep = f.deep more p r.nodes r.program in let within = r.within in absurd (omega (arith, deep, within)) }
 
 front_of : (before mid more : List Token) (bad : Token) → (before ++ bad ∷ mid) ++ more ≡ (before ++ bad ∷ []) ++ (mid ++ more)
@@ -26,8 +27,8 @@ front_of [] mid more bad = refl
 front_of (b ∷ before) mid more bad = ap (λ l. b ∷ l) (front_of before mid more bad)
 
 -- no tree has them
-pub no_tree : (ts : List Token) (at : Place) (p : ProgramTree) → First ts at → Reads 100 ts p → ⊥
-no_tree ts at p f r = f.none f.splits.after p (subst (λ l. Reads 100 l p) (f.splits.whole ∙ sym (append_assoc f.before (f.bad ∷ []) f.splits.after)) r)
+pub no_tree : (ts : List Token) (at : Place) (p : ProgramTree) → First ts at → Reads most_nodes ts p → ⊥
+no_tree ts at p f r = f.none f.splits.after p (subst (λ l. Reads most_nodes l p) (f.splits.whole ∙ sym (append_assoc f.before (f.bad ∷ []) f.splits.after)) r)
 
 -- two ways to split one list: at the same token, or the one before the other
 pub data Order (before more : List Token) (bad worse : Token) : Type 0 where
@@ -53,8 +54,8 @@ order (t ∷ before) (u ∷ more) bad worse rest others e =
 not_sooner : (ts : List Token) (a b : Place) (f : First ts a) (g : First ts b) (mid : List Token) → g.before ≡ f.before ++ f.bad ∷ mid → ⊥
 not_sooner ts a b f g mid e =
     let c = g.can_be in
-    let r : Reads 100 ((f.before ++ f.bad ∷ mid) ++ c.0) c.1 = subst (λ l. Reads 100 (l ++ c.0) c.1) e c.2 in
-    f.none (mid ++ c.0) c.1 (subst (λ l. Reads 100 l c.1) (front_of f.before mid c.0 f.bad) r)
+    let r : Reads most_nodes ((f.before ++ f.bad ∷ mid) ++ c.0) c.1 = subst (λ l. Reads most_nodes (l ++ c.0) c.1) e c.2 in
+    f.none (mid ++ c.0) c.1 (subst (λ l. Reads most_nodes l c.1) (front_of f.before mid c.0 f.bad) r)
 
 pub record SameSplit (before more : List Token) (bad worse : Token) : Type 0 where
   pub fronts : before ≡ more
@@ -72,7 +73,7 @@ pub one_place : (ts : List Token) (a b : Place) → First ts a → First ts b �
 one_place ts a b f g = sym f.splits.place ∙ (ap (λ t. t.place) (one_split ts a b f g).token ∙ g.splits.place)
 
 -- no program, and each too deep
-pub not_both : (ts : List Token) (a b : Place) → FirstSyntax 100 ts a → FirstDeep 100 ts b → ⊥
+pub not_both : (ts : List Token) (a b : Place) → FirstSyntax most_nodes ts a → FirstDeep most_nodes ts b → ⊥
 unfolding of_deep of_syntax
 not_both ts a b f g =
     let s = one_split ts a b (of_syntax ts a f) (of_deep ts b g) in

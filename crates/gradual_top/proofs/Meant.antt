@@ -1,6 +1,7 @@
 -- What follows from the answer where the file and its text are given.
 use Rattle.std.proofs.Common.{◌≡◌, List, ℕ, [], length, Option, Some, None, IfSome, inl, inr, refl, sym, subst, ◌∙◌, ap, arith, ◌≤◌, ◌<◌}
 use Rattle.std.specs.Prelude.{◌⊎◌}
+use Rattle.gc0_base.specs.declared.limits.TheConstants.Limits as limits
 use Rattle.parsed_tree.specs.Tree.{ProgramTree}
 use Rattle.c0_numbers.specs.Resolved.{resolved}
 use Rattle.gradual_top.specs.declared.status.Status.{Status}
@@ -86,7 +87,7 @@ exact laws call NotBuilt a text steps v g le c f = due laws call NotBuilt text s
 exact laws call Memory a text steps v g le c f = inr refl
 exact laws call Limit (inr a) text steps v g le c f = due laws call Limit text steps v g c f a
 exact laws call Limit (inl a) text steps v g le c f =
-    let h = at_name call text steps g (λ o. (x : List ℕ) × (o ≡ Some x) × (262144 < length x)) a.asks a.asked a.told in
+    let h = at_name call text steps g (λ o. (x : List ℕ) × (o ≡ Some x) × (limits.SOURCE < length x)) a.asks a.asked a.told in
     let e : text ≡ h.0 = let q = h.1 in cc in
     let l = ap length e in
     absurd (omega (arith, h.2, l, le))

@@ -6,6 +6,7 @@ use Rattle.std.specs.declared.alloc.AllocError.{AllocError}
 use Rattle.std.specs.Io.KnownBytes.{append_known}
 use Rattle.gc0_io.specs.Causes.{Rose}
 use Rattle.gc0_io.specs.Bytes.{TakesFront}
+use Rattle.gc0_base.specs.declared.limits.TheConstants.Limits as limits
 use Rattle.gc0_base.specs.declared.site.Ending.{Ending}
 use Rattle.gc0_base.specs.declared.site.Ending.TheVariants as ending
 use Rattle.gc0_tree.specs.Tree.{Program}
@@ -92,16 +93,16 @@ of_run text tree n o ReadFault r e = absurd e
 of_run text tree n o NotBuilt r e = absurd e
 of_run text tree n o Usage r e = absurd e
 
-pub reached : (call : Call) (text : List ℕ) (steps : ℕ) (status : Status) → Asks call text steps → TextAnswered text steps call.outputs status → Answered call status
-reached call text steps Returned a e = record { text = text; steps = steps; asks = a; answer = e }
-reached call text steps Stopped a e = record { text = text; steps = steps; asks = a; answer = e }
-reached call text steps Fault a e = record { text = text; steps = steps; asks = a; answer = e }
-reached call text steps StepsUsed a e = record { text = text; steps = steps; asks = a; answer = e }
-reached call text steps Refused a e = record { text = text; steps = steps; asks = a; answer = e }
-reached call text steps NotBuilt a e = record { text = text; steps = steps; asks = a; answer = e }
-reached call text steps Limit a e = inr (record { text = text; steps = steps; asks = a; answer = e })
-reached call text steps WriteFault a e = inr (record { text = text; steps = steps; asks = a; answer = e })
-reached call text steps Memory a e = inr (record { text = text; steps = steps; asks = a; answer = e })
-reached call text steps Absent a e = absurd e
-reached call text steps ReadFault a e = absurd e
-reached call text steps Usage a e = absurd e
+pub reached : (call : Call) (text : List ℕ) (steps : ℕ) (status : Status) → Asks call text steps → length text ≤ limits.SOURCE → TextAnswered text steps call.outputs status → Answered call status
+reached call text steps Returned a w e = record { text = text; steps = steps; asks = a; within = w; answer = e }
+reached call text steps Stopped a w e = record { text = text; steps = steps; asks = a; within = w; answer = e }
+reached call text steps Fault a w e = record { text = text; steps = steps; asks = a; within = w; answer = e }
+reached call text steps StepsUsed a w e = record { text = text; steps = steps; asks = a; within = w; answer = e }
+reached call text steps Refused a w e = record { text = text; steps = steps; asks = a; within = w; answer = e }
+reached call text steps NotBuilt a w e = record { text = text; steps = steps; asks = a; within = w; answer = e }
+reached call text steps Limit a w e = inr (record { text = text; steps = steps; asks = a; within = w; answer = e })
+reached call text steps WriteFault a w e = inr (record { text = text; steps = steps; asks = a; within = w; answer = e })
+reached call text steps Memory a w e = inr (record { text = text; steps = steps; asks = a; within = w; answer = e })
+reached call text steps Absent a w e = absurd e
+reached call text steps ReadFault a w e = absurd e
+reached call text steps Usage a w e = absurd e

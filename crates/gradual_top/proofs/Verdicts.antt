@@ -7,17 +7,18 @@ use Rattle.c0_lex.specs.declared.fault.LexFault.{LexFault}
 use Rattle.c0_lex.specs.Texts.{Lexeme, HasTokens, HasFault, OneList, OneFault, NeverBoth}
 use Rattle.parsed_tree.specs.Tree.{ProgramTree}
 use Rattle.c0_grammar.specs.Tokens.{Token}
+use Rattle.c0_grammar.specs.Lexemes.{read_tokens}
 use Rattle.c0_grammar.specs.Reads.{Reads, OneTree}
 use Rattle.c0_parse.specs.declared.fault.ParseFault.{ParseFault}
 use Rattle.c0_parse.specs.declared.fault.ParseFault.TheVariants as parse
 use Rattle.c0_parse.specs.TreeFaults.{TreeFault, contract_on_prototype, deep_read, tree_faults}
 use Rattle.c0_parse.specs.Causes.{ComesFirst, TreeHas, HasCause}
-use Rattle.c0_rules.specs.declared.violation.TypeFault.{TypeFault}
-use Rattle.c0_rules.specs.declared.violation.Violation.{Violation}
-use Rattle.c0_rules.specs.Violations.{least_of, fault_of}
+use Rattle.c0_value_rules.specs.declared.violation.TypeFault.{TypeFault}
+use Rattle.c0_value_rules.specs.declared.violation.Violation.{Violation}
+use Rattle.c0_value_rules.specs.Violations.{least_of, fault_of}
 use Rattle.c0_rules.specs.Rules.{violations}
 use Rattle.built_text.specs.Reads.{FirstFault, OneFault as OneUnbuilt}
-use Rattle.gradual_top.specs.Source.{grammar_tokens, small_tokens, HasTree, HasParseFault, IsSound, HasTypeFault, Refusal, lexical, parsing, typing, IsRefused, IsTooDeep, IsSmall, IsUnbuilt, IsRunnable, Verdict, refused, too_deep, unbuilt, runs, IsSoundUnbuilt, IsVerdict}
+use Rattle.gradual_top.specs.Source.{most_nodes, small_tokens, HasTree, HasParseFault, IsSound, HasTypeFault, Refusal, lexical, parsing, typing, IsRefused, IsTooDeep, IsSmall, IsUnbuilt, IsRunnable, Verdict, refused, too_deep, unbuilt, runs, IsSoundUnbuilt, IsVerdict}
 use Rattle.gradual_top.proofs.First.{First, of_syntax, of_deep, no_tree, one_place, not_both}
 
 -- the laws of the floors below
@@ -32,26 +33,26 @@ pub record Laws : Type 0 where
 pub same_tree : Laws → (text : List ℕ) (p q : ProgramTree) → HasTree text p → HasTree text q → p ≡ q
 same_tree laws text p q a b =
     let same = laws.lists text b.lexemes a.lexemes b.tokens a.tokens in
-    let r : Reads 100 (grammar_tokens a.lexemes) q = subst (λ l. Reads 100 (grammar_tokens l) q) same b.reads in
-    laws.trees (grammar_tokens a.lexemes) p q a.reads.nodes r.nodes a.reads.program r.program
+    let r : Reads most_nodes (read_tokens a.lexemes) q = subst (λ l. Reads most_nodes (read_tokens l) q) same b.reads in
+    laws.trees (read_tokens a.lexemes) p q a.reads.nodes r.nodes a.reads.program r.program
 
 -- the tokens of the one are those of the other
-read_by : Laws → (text : List ℕ) (f : ParseFault) (p : ProgramTree) (h : HasParseFault text f) → HasTree text p → Reads 100 (grammar_tokens h.lexemes) p
-read_by laws text f p h t = subst (λ l. Reads 100 (grammar_tokens l) p) (laws.lists text t.lexemes h.lexemes t.tokens h.tokens) t.reads
+read_by : Laws → (text : List ℕ) (f : ParseFault) (p : ProgramTree) (h : HasParseFault text f) → HasTree text p → Reads most_nodes (read_tokens h.lexemes) p
+read_by laws text f p h t = subst (λ l. Reads most_nodes (read_tokens l) p) (laws.lists text t.lexemes h.lexemes t.tokens h.tokens) t.reads
 
-cause_by : Laws → (text : List ℕ) (f g : ParseFault) (h : HasParseFault text f) (k : HasParseFault text g) → HasCause (grammar_tokens h.lexemes) g
-cause_by laws text f g h k = subst (λ l. HasCause (grammar_tokens l) g) (laws.lists text k.lexemes h.lexemes k.tokens h.tokens) k.cause
+cause_by : Laws → (text : List ℕ) (f g : ParseFault) (h : HasParseFault text f) (k : HasParseFault text g) → HasCause (read_tokens h.lexemes) g
+cause_by laws text f g h k = subst (λ l. HasCause (read_tokens l) g) (laws.lists text k.lexemes h.lexemes k.tokens h.tokens) k.cause
 
 -- ---- a sound tree is not refused
 not_first : (f : TreeFault) (fs : List TreeFault) → fs ≡ [] → ComesFirst f fs → ⊥
 not_first f fs e c = let d = c.1 in let n : f ∷ c.0 ≡ [] = sym d ∙ e in absurd (cc)
 
-of_cause : Laws → (ts : List Token) (p q : ProgramTree) → Reads 100 ts p → Reads 100 ts q → p ≡ q
+of_cause : Laws → (ts : List Token) (p q : ProgramTree) → Reads most_nodes ts p → Reads most_nodes ts q → p ≡ q
 of_cause laws ts p q a b = laws.trees ts p q a.nodes b.nodes a.program b.program
 
-tree_not_refused : Laws → (text : List ℕ) (f : ParseFault) (t : TreeFault) (p : ProgramTree) (h : HasParseFault text f) → TreeHas (grammar_tokens h.lexemes) t → HasTree text p → tree_faults p ≡ [] → ⊥
+tree_not_refused : Laws → (text : List ℕ) (f : ParseFault) (t : TreeFault) (p : ProgramTree) (h : HasParseFault text f) → TreeHas (read_tokens h.lexemes) t → HasTree text p → tree_faults p ≡ [] → ⊥
 tree_not_refused laws text f t p h c has none =
-    let e = of_cause laws (grammar_tokens h.lexemes) c.0 p c.1 (read_by laws text f p h has) in
+    let e = of_cause laws (read_tokens h.lexemes) c.0 p c.1 (read_by laws text f p h has) in
     not_first t (tree_faults c.0) (ap tree_faults e ∙ none) c.2
 
 -- a tree that breaks no typing rule has no first violation
@@ -60,7 +61,7 @@ no_violation tree f v h = let e : None ≡ Some f = ap (λ vs. option_map fault_
 
 pub not_refused : Laws → (text : List ℕ) (r : Refusal) (p : ProgramTree) → IsRefused text r → HasTree text p → IsSound p → ⊥
 not_refused laws text (lexical f) p c has sound = laws.never text has.lexemes f has.tokens c
-not_refused laws text (parsing (parse.Syntax at)) p c has sound = no_tree (grammar_tokens c.lexemes) at p (of_syntax _ at c.cause) (read_by laws text (parse.Syntax at) p c has)
+not_refused laws text (parsing (parse.Syntax at)) p c has sound = no_tree (read_tokens c.lexemes) at p (of_syntax _ at c.cause) (read_by laws text (parse.Syntax at) p c has)
 not_refused laws text (parsing (parse.TooDeep at)) p c has sound = absurd c
 not_refused laws text (parsing (parse.ContractOnPrototype at)) p c has sound = tree_not_refused laws text (parse.ContractOnPrototype at) (contract_on_prototype at) p c c.cause has sound.faultless
 not_refused laws text (parsing (parse.DeepRead at)) p c has sound = tree_not_refused laws text (parse.DeepRead at) (deep_read at) p c c.cause has sound.faultless
@@ -68,18 +69,18 @@ not_refused laws text (parsing parse.Memory) p c has sound = absurd c
 not_refused laws text (typing f) p c has sound = no_violation p f sound.typed (ap (λ q. option_map fault_of (least_of (violations q))) (sym (same_tree laws text c.tree p c.has has)) ∙ c.least)
 
 pub not_deep : Laws → (text : List ℕ) (p : ProgramTree) → IsTooDeep text → HasTree text p → ⊥
-not_deep laws text p d has = no_tree (grammar_tokens d.fault.lexemes) d.at p (of_deep _ d.at d.fault.cause) (read_by laws text (parse.TooDeep d.at) p d.fault has)
+not_deep laws text p d has = no_tree (read_tokens d.fault.lexemes) d.at p (of_deep _ d.at d.fault.cause) (read_by laws text (parse.TooDeep d.at) p d.fault has)
 
 -- ---- one refusal
-tree_first : Laws → (text : List ℕ) (at : Place) (f g : ParseFault) (t : TreeFault) (h : HasParseFault text f) (k : HasParseFault text g) → First (grammar_tokens h.lexemes) at → TreeHas (grammar_tokens k.lexemes) t → ⊥
+tree_first : Laws → (text : List ℕ) (at : Place) (f g : ParseFault) (t : TreeFault) (h : HasParseFault text f) (k : HasParseFault text g) → First (read_tokens h.lexemes) at → TreeHas (read_tokens k.lexemes) t → ⊥
 tree_first laws text at f g t h k first c =
     let same = laws.lists text k.lexemes h.lexemes k.tokens h.tokens in
-    no_tree (grammar_tokens h.lexemes) at c.0 first (subst (λ l. Reads 100 (grammar_tokens l) c.0) same c.1)
+    no_tree (read_tokens h.lexemes) at c.0 first (subst (λ l. Reads most_nodes (read_tokens l) c.0) same c.1)
 
-one_tree_fault : Laws → (text : List ℕ) (f g : ParseFault) (t u : TreeFault) (h : HasParseFault text f) (k : HasParseFault text g) → TreeHas (grammar_tokens h.lexemes) t → TreeHas (grammar_tokens k.lexemes) u → t ≡ u
+one_tree_fault : Laws → (text : List ℕ) (f g : ParseFault) (t u : TreeFault) (h : HasParseFault text f) (k : HasParseFault text g) → TreeHas (read_tokens h.lexemes) t → TreeHas (read_tokens k.lexemes) u → t ≡ u
 one_tree_fault laws text f g t u h k c d =
     let same = laws.lists text k.lexemes h.lexemes k.tokens h.tokens in
-    let e = of_cause laws (grammar_tokens h.lexemes) c.0 d.0 c.1 (subst (λ l. Reads 100 (grammar_tokens l) d.0) same d.1) in
+    let e = of_cause laws (read_tokens h.lexemes) c.0 d.0 c.1 (subst (λ l. Reads most_nodes (read_tokens l) d.0) same d.1) in
     let x = c.2.1 in
     let y = d.2.1 in
     let z : t ∷ c.2.0 ≡ u ∷ d.2.0 = sym x ∙ (ap tree_faults e ∙ y) in
@@ -87,7 +88,7 @@ one_tree_fault laws text f g t u h k c d =
 
 -- a fault of the parser refuses, and no tree's violation does
 parse_not_typed : Laws → (text : List ℕ) (f : ParseFault) (g : TypeFault) → IsRefused text (parsing f) → HasTypeFault text g → ⊥
-parse_not_typed laws text (parse.Syntax at) g c t = no_tree (grammar_tokens c.lexemes) at t.tree (of_syntax _ at c.cause) (read_by laws text (parse.Syntax at) t.tree c t.has)
+parse_not_typed laws text (parse.Syntax at) g c t = no_tree (read_tokens c.lexemes) at t.tree (of_syntax _ at c.cause) (read_by laws text (parse.Syntax at) t.tree c t.has)
 parse_not_typed laws text (parse.TooDeep at) g c t = absurd c
 parse_not_typed laws text (parse.ContractOnPrototype at) g c t = tree_not_refused laws text (parse.ContractOnPrototype at) (contract_on_prototype at) t.tree c c.cause t.has t.faultless
 parse_not_typed laws text (parse.DeepRead at) g c t = tree_not_refused laws text (parse.DeepRead at) (deep_read at) t.tree c c.cause t.has t.faultless
@@ -110,7 +111,7 @@ contract_not_read : (a b : Place) → contract_on_prototype a ≡ deep_read b �
 contract_not_read a b e = absurd (cc)
 
 one_parse : Laws → (text : List ℕ) (f g : ParseFault) → IsRefused text (parsing f) → IsRefused text (parsing g) → f ≡ g
-one_parse laws text (parse.Syntax a) (parse.Syntax b) c d = ap parse.Syntax (one_place (grammar_tokens c.lexemes) a b (of_syntax _ a c.cause) (of_syntax _ b (cause_by laws text (parse.Syntax a) (parse.Syntax b) c d)))
+one_parse laws text (parse.Syntax a) (parse.Syntax b) c d = ap parse.Syntax (one_place (read_tokens c.lexemes) a b (of_syntax _ a c.cause) (of_syntax _ b (cause_by laws text (parse.Syntax a) (parse.Syntax b) c d)))
 one_parse laws text (parse.Syntax a) (parse.ContractOnPrototype b) c d = absurd (tree_first laws text a (parse.Syntax a) (parse.ContractOnPrototype b) (contract_on_prototype b) c d (of_syntax _ a c.cause) d.cause)
 one_parse laws text (parse.Syntax a) (parse.DeepRead b) c d = absurd (tree_first laws text a (parse.Syntax a) (parse.DeepRead b) (deep_read b) c d (of_syntax _ a c.cause) d.cause)
 one_parse laws text (parse.ContractOnPrototype a) (parse.Syntax b) c d = absurd (tree_first laws text b (parse.Syntax b) (parse.ContractOnPrototype a) (contract_on_prototype a) d c (of_syntax _ b d.cause) c.cause)
@@ -143,7 +144,7 @@ one_refusal laws text (typing f) (typing g) c d = ap typing (one_typed laws text
 -- ---- what passes the limit of nesting is not refused
 deep_not_refused : Laws → (text : List ℕ) (r : Refusal) → IsRefused text r → IsTooDeep text → ⊥
 deep_not_refused laws text (lexical f) c d = laws.never text d.fault.lexemes f d.fault.tokens c
-deep_not_refused laws text (parsing (parse.Syntax at)) c d = not_both (grammar_tokens c.lexemes) at d.at c.cause (cause_by laws text (parse.Syntax at) (parse.TooDeep d.at) c d.fault)
+deep_not_refused laws text (parsing (parse.Syntax at)) c d = not_both (read_tokens c.lexemes) at d.at c.cause (cause_by laws text (parse.Syntax at) (parse.TooDeep d.at) c d.fault)
 deep_not_refused laws text (parsing (parse.TooDeep at)) c d = absurd c
 deep_not_refused laws text (parsing (parse.ContractOnPrototype at)) c d = tree_first laws text d.at (parse.TooDeep d.at) (parse.ContractOnPrototype at) (contract_on_prototype at) d.fault c (of_deep _ d.at d.fault.cause) c.cause
 deep_not_refused laws text (parsing (parse.DeepRead at)) c d = tree_first laws text d.at (parse.TooDeep d.at) (parse.DeepRead at) (deep_read at) d.fault c (of_deep _ d.at d.fault.cause) c.cause

@@ -16,8 +16,8 @@ use Rattle.c0_lex.specs.declared.fault.LexFault.{LexFault}
 use Rattle.c0_lex.specs.declared.fault.LexFault.TheVariants as lex
 use Rattle.c0_parse.specs.declared.fault.ParseFault.{ParseFault}
 use Rattle.c0_parse.specs.declared.fault.ParseFault.TheVariants as parse
-use Rattle.c0_rules.specs.declared.violation.TypeFault.{TypeFault}
-use Rattle.c0_rules.specs.declared.violation.TypeFault.TheVariants as fault
+use Rattle.c0_value_rules.specs.declared.violation.TypeFault.{TypeFault}
+use Rattle.c0_value_rules.specs.declared.violation.TypeFault.TheVariants as fault
 use Rattle.gradual_top.specs.declared.status.Status.{Status}
 use Rattle.gradual_top.specs.declared.status.Status.TheVariants.{Returned, Stopped, Fault, StepsUsed, Refused, Limit, Absent, ReadFault, WriteFault, Memory, NotBuilt, Usage}
 use Rattle.gradual_top.specs.Words.{word_at}

@@ -5,6 +5,7 @@ use Rattle.gc0_io.specs.Causes.{Rose}
 use Rattle.gc0_io.specs.Bytes.{TakesFront}
 use Rattle.gc0_io.specs.Fetching.{Contents}
 use Rattle.gc0_base.specs.declared.place.Place.{Place}
+use Rattle.gc0_base.specs.declared.limits.TheConstants.Limits as limits
 use Rattle.parsed_tree.specs.Tree.{ProgramTree}
 use Rattle.gc0_tree.specs.Tree.{Program}
 use Rattle.c0_numbers.specs.Resolved.{resolved}
@@ -113,11 +114,13 @@ pub record Asks (call : Call) (text : List ℕ) (steps : ℕ) : Type 0 where
   pub asked : asked_in call.words ≡ Some (record { steps = steps; file = name })
   pub told : IfSome call.files (λ files. files name ≡ Some text)
 
--- the text of the file was reached: this is what the answer says of it
+-- The text of the file was reached: this is what the answer says of it. A text that is longer than a source
+-- may be is never reached, whether the files are told or not.
 pub record Reaches (call : Call) (status : Status) : Type 0 where
   pub text : List ℕ
   pub steps : ℕ
   pub asks : Asks call text steps
+  pub within : length text ≤ limits.SOURCE
   pub answer : TextAnswered text steps call.outputs status
 
 -- the file is not there
@@ -131,7 +134,7 @@ pub record IsAbsent (call : Call) : Type 0 where
 pub record IsTooLong (call : Call) : Type 0 where
   pub asks : Asked
   pub asked : asked_in call.words ≡ Some asks
-  pub told : IfSome call.files (λ files. (text : List ℕ) × (files asks.file ≡ Some text) × (262144 < length text))
+  pub told : IfSome call.files (λ files. (text : List ℕ) × (files asks.file ≡ Some text) × (limits.SOURCE < length text))
   pub says : Refuses call.outputs source_line
 
 -- What an answer says. After WriteFault and Memory, `out` took nothing, or a front of what is
@@ -192,5 +195,5 @@ Does text (runs tree) n o answer = Ran text (resolved tree) n o answer
 -- Where no count of faults rose, a text within the limit gets exactly what its verdict says, unless memory runs out.
 abbrev pub IsExact : Call → Status → Type 0
 IsExact call status =
-    (text : List ℕ) (steps : ℕ) (verdict : Verdict) → Given call text steps → length text ≤ 262144 → IsVerdict text verdict → Faultless call →
+    (text : List ℕ) (steps : ℕ) (verdict : Verdict) → Given call text steps → length text ≤ limits.SOURCE → IsVerdict text verdict → Faultless call →
     Does text verdict steps call.outputs status ⊎ (status ≡ Memory)

@@ -2,6 +2,7 @@
 use Rattle.std.specs.Prelude.{ℕ, Bool, List, [], ◌∷◌, Option, Some, None, nat_eq, nat_le, if◌then◌else◌, ◌&&◌, ◌||◌, ◌==◌, ◌*◌, ◌+◌, ◌-◌, not, codes, length, fold, option_map}
 use Rattle.std.specs.List.{starts_with, list_all}
 use Rattle.std.specs.Str.{bytes_eq}
+use Rattle.gc0_base.specs.declared.limits.TheConstants.Limits as limits
 use Rattle.gradual_top.specs.declared.request.Request.{Request}
 use Rattle.gradual_top.specs.declared.request.Request.TheVariants.{Run}
 
@@ -30,11 +31,11 @@ decimal_value digits = fold (λ n d. n * 10 + (d - 48)) 0 digits
 
 -- the number of steps that a word writes
 abbrev pub steps_in : List ℕ → Option ℕ
-steps_in word = if is_numeral word && nat_le (decimal_value word) 10000000 then Some (decimal_value word) else None
+steps_in word = if is_numeral word && nat_le (decimal_value word) limits.STEPS then Some (decimal_value word) else None
 
 -- `run FILE`
 abbrev pub plain_in : (verb file : List ℕ) → Option Asked
-plain_in verb file = if bytes_eq verb (codes "run") && not (is_option file) then Some (record { steps = 1000000; file = file }) else None
+plain_in verb file = if bytes_eq verb (codes "run") && not (is_option file) then Some (record { steps = limits.DEFAULT_STEPS; file = file }) else None
 
 -- `run --steps N FILE`
 abbrev pub stepped_in : (verb option number file : List ℕ) → Option Asked

@@ -2,18 +2,18 @@
 use Rattle.std.specs.Prelude.{◌≡◌, ℕ, List, [], map, Option, Some}
 use Rattle.std.specs.Option.{option_map}
 use Rattle.gc0_base.specs.declared.place.Place.{Place}
+use Rattle.gc0_base.specs.declared.limits.TheConstants.Limits as limits
 use Rattle.c0_lex.specs.declared.fault.LexFault.{LexFault}
 use Rattle.c0_lex.specs.Texts.{Lexeme, HasTokens, HasFault}
 use Rattle.parsed_tree.specs.Tree.{ProgramTree}
-use Rattle.c0_grammar.specs.Tokens.{Token}
-use Rattle.c0_grammar.specs.Seen.{what_of}
+use Rattle.c0_grammar.specs.Lexemes.{read_tokens}
 use Rattle.c0_grammar.specs.Reads.{Reads}
 use Rattle.c0_parse.specs.declared.fault.ParseFault.{ParseFault}
 use Rattle.c0_parse.specs.declared.fault.ParseFault.TheVariants as parse
 use Rattle.c0_parse.specs.TreeFaults.{tree_faults}
 use Rattle.c0_parse.specs.Causes.{HasCause}
-use Rattle.c0_rules.specs.declared.violation.TypeFault.{TypeFault}
-use Rattle.c0_rules.specs.Violations.{least_of, fault_of}
+use Rattle.c0_value_rules.specs.declared.violation.TypeFault.{TypeFault}
+use Rattle.c0_value_rules.specs.Violations.{least_of, fault_of}
 use Rattle.c0_rules.specs.Rules.{violations}
 use Rattle.built_text.specs.declared.token.Token.{Token as SmallToken}
 use Rattle.built_text.specs.Tree.{ProgramTree as SmallTree}
@@ -21,32 +21,25 @@ use Rattle.built_text.specs.Grammar.{IsProgram}
 use Rattle.built_text.specs.Reads.{FirstFault}
 use Rattle.built_text.specs.Tokens.{built_lexeme}
 
--- the tokens of a text, as the grammar of the language sees them
-abbrev pub grammar_token : Lexeme → Token
-grammar_token l = record { what = what_of l.kind l.bytes; place = l.place }
-
-abbrev pub grammar_tokens : List Lexeme → List Token
-grammar_tokens ls = map grammar_token ls
-
--- and as the grammar of what is built so far sees them
+-- the tokens of a text, as the grammar of what is built so far sees them
 abbrev pub small_tokens : List Lexeme → List SmallToken
 small_tokens ls = map built_lexeme ls
 
 -- how many nodes may stand on a path of a tree
 abbrev pub most_nodes : ℕ
-most_nodes = 100
+most_nodes = limits.NESTING
 
 -- the text has this tree, which is not too deep
 pub record HasTree (text : List ℕ) (tree : ProgramTree) : Type 0 where
   pub lexemes : List Lexeme
   pub tokens : HasTokens text lexemes
-  pub reads : Reads most_nodes (grammar_tokens lexemes) tree
+  pub reads : Reads most_nodes (read_tokens lexemes) tree
 
 -- the text has tokens, and the parser's fault in them is this
 pub record HasParseFault (text : List ℕ) (fault : ParseFault) : Type 0 where
   pub lexemes : List Lexeme
   pub tokens : HasTokens text lexemes
-  pub cause : HasCause (grammar_tokens lexemes) fault
+  pub cause : HasCause (read_tokens lexemes) fault
 
 -- a tree that no rule refuses: neither those of formulas and prototypes, nor those of types and scopes
 pub record IsSound (tree : ProgramTree) : Type 0 where

@@ -1,3 +1,4 @@
+//! What is true of every text: it has one verdict.
 ghost use Rattle.gradual_top.specs.Source.{OneVerdict, EachVerdict};
 
 use built_text::{cut_ends_last, each_tokens};

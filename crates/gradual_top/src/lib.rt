@@ -13,8 +13,3 @@ pub use laws::{each_verdict, one_verdict};
 pub use request::{Request, request_of};
 pub use status::Status;
 pub use top::gradual;
-
-#[cfg(test)]
-mod fault_tests;
-#[cfg(test)]
-mod tests;

@@ -1,3 +1,4 @@
+//! The one line that goes to the error output.
 ghost use Rattle.std.specs.Prelude.{◌≡◌, ◌≢◌, ◌++◌, OnOk, IfOk, codes};
 ghost use Rattle.gc0_tree.specs.Views.{program_view};
 ghost use Rattle.gradual_top.specs.Lines.{place_text, place_line, fault_word, what_of, function_name, stop_place, or_nowhere, line_of, absent_line, not_built_line, refused_at, lexical_line, parse_line, type_line};

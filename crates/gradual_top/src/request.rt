@@ -1,3 +1,4 @@
+//! What the words of a command ask for.
 ghost use Rattle.std.specs.Prelude.{◌≡◌, ◌≤◌, IfSome, map, option_map, string_bytes};
 ghost use Rattle.gradual_top.specs.Requests.{asked_in, asked_of, file_of, steps_of, is_option, steps_in, plain_in, stepped_in};
 
@@ -22,7 +23,7 @@ pub enum Request<'a> {
 /// 1,000,000 where the words name none.
 pub fn request_of(words: &[String]) -> Option<Request<'_>>
     ensures asked { option_map asked_of result ≡ asked_in (map string_bytes words.now) }
-    ensures few { IfSome result (λ r. steps_of r ≤ 10000000) }
+    ensures few { IfSome result (λ r. steps_of r ≤ Limits.STEPS) }
 {
     match words {
         [verb, file] => plain(verb.as_str(), file.as_str()),
@@ -44,7 +45,7 @@ pub fn request_of(words: &[String]) -> Option<Request<'_>>
 // `run FILE`
 fn plain<'a>(verb: &str, file: &'a str) -> Option<Request<'a>>
     ensures asked { option_map asked_of result ≡ plain_in verb.now file.now }
-    ensures few { IfSome result (λ r. steps_of r ≤ 10000000) }
+    ensures few { IfSome result (λ r. steps_of r ≤ Limits.STEPS) }
 {
     if verb == "run" && !is_option(file) {
         return Some(Request::Run {
@@ -58,7 +59,7 @@ fn plain<'a>(verb: &str, file: &'a str) -> Option<Request<'a>>
 // `run --steps N FILE`
 fn stepped<'a>(verb: &str, option: &str, number: &str, file: &'a str) -> Option<Request<'a>>
     ensures asked { option_map asked_of result ≡ stepped_in verb.now option.now number.now file.now }
-    ensures few { IfSome result (λ r. steps_of r ≤ 10000000) }
+    ensures few { IfSome result (λ r. steps_of r ≤ Limits.STEPS) }
 {
     if verb == "run" && option == "--steps" && !is_option(file) {
         return match steps_in(number) {
@@ -78,7 +79,7 @@ fn is_option(word: &str) -> bool
 // The number of steps that a word writes.
 fn steps_in(word: &str) -> Option<u64>
     ensures is { result ≡ steps_in word.now }
-    ensures few { IfSome result (λ n. n ≤ 10000000) }
+    ensures few { IfSome result (λ n. n ≤ Limits.STEPS) }
 {
     let digits = word.as_bytes();
     if digits.is_empty() || (digits.len() > 1 && digits[0] == b'0') {

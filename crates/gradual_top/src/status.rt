@@ -1,3 +1,4 @@
+//! How a call ended, and the exit status for it.
 ghost use Rattle.std.specs.Prelude.{◌≡◌};
 ghost use Rattle.gradual_top.specs.Lines.{code_of};
 

@@ -1,3 +1,4 @@
+//! The one call that does all: what is asked for, the stages of a text, and how it ended.
 ghost use Rattle.std.specs.Prelude.{◌≡◌, ◌≤◌, ◌⊎◌, [], length, map, string_bytes, IfOk, IfErr};
 ghost use Rattle.gc0_io.specs.Causes.{Rose};
 ghost use Rattle.gc0_tree.specs.Views.{program_view};
@@ -120,7 +121,7 @@ fn serve_text<O: Sink, E: Sink>(
     err: &mut E,
 ) -> Status
     requires short { length text.now ≤ Limits.SOURCE }
-    requires few { steps ≤ 10000000 }
+    requires few { steps ≤ Limits.STEPS }
     ensures answer { TextAnswered text.now steps (record { out_before = O.faults out.old; out_after = O.faults out.new; err_before = E.faults err.old; err_after = E.faults err.new; out_old = O.taken out.old; out_new = O.taken out.new; err_old = E.taken err.old; err_new = E.taken err.new }) result }
     ensures out_later { O.faults out.old ≤ O.faults out.new }
     ensures err_later { E.faults err.old ≤ E.faults err.new }
@@ -159,7 +160,7 @@ fn run_program<O: Sink, E: Sink>(
     err: &mut E,
 ) -> Status
     requires built { IsBuilt (program_view program.now) }
-    requires few { steps ≤ 10000000 }
+    requires few { steps ≤ Limits.STEPS }
     ensures ends { Ends text.now (program_view program.now) steps (record { out_before = O.faults out.old; out_after = O.faults out.new; err_before = E.faults err.old; err_after = E.faults err.new; out_old = O.taken out.old; out_new = O.taken out.new; err_old = E.taken err.old; err_new = E.taken err.new }) result }
     ensures out_later { O.faults out.old ≤ O.faults out.new }
     ensures err_later { E.faults err.old ≤ E.faults err.new }
@@ -188,7 +189,7 @@ fn run_code<O: Sink>(
     out: &mut O,
 ) -> Result<Ending, RunFault>
     requires built { IsBuiltCode (code_view code.now) }
-    requires few { steps ≤ 10000000 }
+    requires few { steps ≤ Limits.STEPS }
     ensures ok { IfOk result (λ e. (O.taken out.new ≡ append_known (O.taken out.old) (run_code (code_view code.now) [] steps).0) × ((run_code (code_view code.now) [] steps).1 ≡ e)) }
     ensures front { IfErr result (λ _. TakesFront (O.taken out.old) (O.taken out.new) (run_code (code_view code.now) [] steps).0) }
     ensures cause { IfErr result (λ e. e ≡ RunFault.Write → Rose (O.faults out.old) (O.faults out.new)) }

@@ -1,3 +1,4 @@
+//! The word that stands at a place of a text.
 ghost use Rattle.std.specs.Prelude.{◌≡◌};
 ghost use Rattle.gradual_top.specs.Words.{word_at, behind_line, behind_lines, behind_columns, front_word, is_word_byte};
 

@@ -1,3 +1,4 @@
+-- The lemmas of this crate's proofs.
 pub mod Budget
 pub mod Values
 pub mod Trees

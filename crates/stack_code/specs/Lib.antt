@@ -1,3 +1,4 @@
+-- The definitions that the contracts cite.
 pub mod Instrs
 pub mod Machine
 pub mod Coding

@@ -1,3 +1,5 @@
+//! The instructions of the stack machine.
+
 use gc0_base::{Site, Word};
 use gc0_tree::{Formula, Program};
 use sqlite_items::Items;

@@ -1,3 +1,5 @@
+//! The machine: its loop over instructions.
+
 ghost use Rattle.std.specs.Prelude.{◌≡◌, ◌≤◌, ◌+◌, ◌*◌, map, IfOk, IfErr, IfSome};
 ghost use Rattle.std.specs.Io.KnownBytes.{append_known};
 ghost use Rattle.gc0_io.specs.Causes.{Rose};

@@ -1,3 +1,5 @@
+//! The state of a machine: its values and frames.
+
 ghost use Rattle.std.specs.Prelude.{◌≡◌, ◌+◌, ◌<◌, ◌≤◌, [], ◌∷◌, ℕ, List, slice_range, slice_index, slice_set, MatchOption, IfOk, IfSome};
 ghost use Rattle.stack_code.specs.Instrs as instr;
 ghost use Rattle.stack_code.specs.Views.{code_view, body_view};

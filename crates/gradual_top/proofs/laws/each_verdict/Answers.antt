@@ -1,3 +1,4 @@
+-- Each text has a verdict: the laws of the crates below, put together.
 use Rattle.gradual_top.proofs.Each.{each_verdict}
 use Rattle.gradual_top.proofs.laws.each_verdict.Goals as goal
 

@@ -1,3 +1,4 @@
+-- A text has at most one verdict: the laws of the crates below, put together.
 use Rattle.gradual_top.proofs.Verdicts.{one_verdict}
 use Rattle.gradual_top.proofs.laws.one_verdict.Goals as goal
 

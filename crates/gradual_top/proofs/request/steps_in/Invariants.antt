@@ -1,3 +1,4 @@
+-- What the loop over the digits keeps.
 use Rattle.std.proofs.Common.{◌≡◌, ◌^◌, ◌-◌, min, take, true}
 use Rattle.std.specs.List.{list_all}
 use Rattle.gradual_top.specs.Requests.{is_digit, decimal_value}

@@ -1,3 +1,4 @@
+-- The code is one that can be run, and what its end says.
 use Rattle.std.proofs.Common.{[], sym, refl, subst}
 use Rattle.stack_runner.specs.Built.{IsBuiltCode}
 use Rattle.gradual_top.proofs.Said.{ok_ends, unrun_ends}

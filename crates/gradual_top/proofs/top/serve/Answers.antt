@@ -1,3 +1,4 @@
+-- The answer for a file that is not there, and for one that was fetched.
 use Rattle.std.proofs.Common.{◌≡◌, refl, inl, inr, sym}
 use Rattle.gradual_top.specs.Outcomes.{Answered}
 use Rattle.gradual_top.specs.Requests.{asked_of, file_of, steps_of}
@@ -17,4 +18,4 @@ returns-in-Absent-clause-answer g c =
 pub returns-clause-answer : goal.returns-clause-answer
 returns-clause-answer g c =
     let answer = rw (c.as_slice.ensures, c.steps.ensures) at c.serve_text.ensures.answer in
-    reached _ c.in-Found.text (steps_of c.in-Some.request) _ (record { name = file_of c.in-Some.request; asked = sym c.in-Some.ensures.asked; told = rw (← c.file-file.ensures) c.in-Found.ensures.told }) answer
+    reached _ c.in-Found.text (steps_of c.in-Some.request) _ (record { name = file_of c.in-Some.request; asked = sym c.in-Some.ensures.asked; told = rw (← c.file-file.ensures) c.in-Found.ensures.told }) c.in-Found.ensures.most answer

@@ -1,9 +1,10 @@
+-- The answer for each stage at which a text can end.
 use Rattle.std.proofs.Common.{◌≡◌, ◌∙◌, refl, inl, inr, sym, subst, ap}
 use Rattle.std.specs.Prelude.{◌≢◌}
 use Rattle.stack_code.specs.Built.{IsBuilt}
 use Rattle.c0_lex.specs.declared.fault.LexFault.TheVariants as lex
 use Rattle.c0_parse.specs.declared.fault.ParseFault.TheVariants as parse
-use Rattle.c0_rules.specs.declared.violation.TypeFault.TheVariants as typed
+use Rattle.c0_value_rules.specs.declared.violation.TypeFault.TheVariants as typed
 use Rattle.parsed_tree.specs.Views.{program_view}
 use Rattle.gradual_top.specs.Outcomes.{TextAnswered}
 use Rattle.gradual_top.proofs.Said.{text_said, known_said, of_run}

@@ -1,3 +1,4 @@
+-- What the loop over the bytes of a line keeps.
 use Rattle.std.proofs.Common.{◌≡◌, length}
 use Rattle.gradual_top.specs.Words.{behind_line}
 use Rattle.gradual_top.proofs.word.behind_line.Given as goal

@@ -1,3 +1,4 @@
+-- One more line is behind.
 use Rattle.gradual_top.proofs.Counting.{next_line}
 use Rattle.gradual_top.proofs.word.behind_lines.Goals as goal
 

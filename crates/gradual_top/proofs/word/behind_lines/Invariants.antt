@@ -1,3 +1,4 @@
+-- What the loop over the lines keeps.
 use Rattle.std.proofs.Common.{◌≡◌, ◌-◌}
 use Rattle.gradual_top.specs.Words.{behind_ends}
 use Rattle.gradual_top.proofs.word.behind_lines.Given as goal

@@ -1,3 +1,4 @@
+-- What the loop over the bytes of a word keeps.
 use Rattle.std.proofs.Common.{◌≡◌, ◌++◌, ◌-◌, ◌≤◌, take, drop, length}
 use Rattle.gradual_top.specs.Words.{front_word}
 use Rattle.gradual_top.proofs.word.front_word.Given as goal

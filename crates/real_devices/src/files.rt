@@ -1,12 +1,16 @@
+//! The files of the system, read whole up to a limit.
 ghost use Rattle.std.specs.Prelude.{None, ◌≡◌, ◌≤◌};
 ghost use Rattle.gc0_io.specs.Causes.{Rose};
 ghost use Rattle.gc0_io.specs.Fetching.{FetchesAtMost};
 
-use gc0_io::{Failed, Fetched, Files, Sink, Source};
+use gc0_io::{Fetched, Files};
 use sqlite_items::Items;
 use std::alloc::Global;
-use std::io::{ErrorKind, Read, Write};
+use std::io::{ErrorKind, Read};
 use std::rt;
+
+// How many bytes one call reads at most.
+const CHUNK: usize = 65_536;
 
 /// The files of the system. What they hold is not told.
 #[derive(Drop)]
@@ -58,7 +62,7 @@ fn read_whole<R: Read>(alloc: Global, file: &mut R, most: usize) -> Fetched
     ensures { FetchesAtMost most result }
 {
     let mut bytes = Vec::new(alloc);
-    let mut buf = [0u8; 4096];
+    let mut buf = [0u8; CHUNK];
     for _ in 0..u64::MAX {
         let count = match file.read(&mut buf) {
             Ok(count) => count,
@@ -76,65 +80,4 @@ fn read_whole<R: Read>(alloc: Global, file: &mut R, most: usize) -> Fetched
         }
     }
     Fetched::Failed
-}
-
-/// A reader of the system. What it has left is not told.
-#[derive(Drop)]
-pub struct Input<R: Read + Drop> {
-    inner: R,
-    faults: u64,
-}
-
-impl<R: Read + Drop> Input<R> {
-    /// A source that reads from `inner`.
-    pub fn new(inner: R) -> Self {
-        Input { inner, faults: 0 }
-    }
-}
-
-impl<R: Read + Drop> Source for Input<R> {
-    ghost left = { λ _. None };
-
-    ghost faults = { λ s. s.faults };
-
-    fn read(&mut self, buf: &mut [u8]) -> Result<usize, Failed> {
-        match self.inner.read(buf) {
-            Ok(count) => Ok(count),
-            Err(_) => {
-                self.faults = self.faults.saturating_add(1);
-                Err(Failed)
-            }
-        }
-    }
-}
-
-/// A writer of the system. What it has taken is not told. A writer that takes nothing of a
-/// piece counts a fault.
-#[derive(Drop)]
-pub struct Output<W: Write + Drop> {
-    inner: W,
-    faults: u64,
-}
-
-impl<W: Write + Drop> Output<W> {
-    /// A sink that writes to `inner`, and holds nothing back.
-    pub fn new(inner: W) -> Self {
-        Output { inner, faults: 0 }
-    }
-}
-
-impl<W: Write + Drop> Sink for Output<W> {
-    ghost taken = { λ _. None };
-
-    ghost faults = { λ s. s.faults };
-
-    fn write(&mut self, piece: &[u8]) -> Result<usize, Failed> {
-        match self.inner.write(piece) {
-            Ok(count) if count > 0 || piece.is_empty() => Ok(count),
-            _ => {
-                self.faults = self.faults.saturating_add(1);
-                Err(Failed)
-            }
-        }
-    }
 }
