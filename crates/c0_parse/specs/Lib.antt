@@ -4,3 +4,4 @@ pub mod Read
 pub mod TreeFaults
 pub mod Causes
 pub mod Answers
+pub mod Heads

@@ -6,13 +6,16 @@ ghost use Rattle.c0_lex.specs.declared.token.Keyword.TheVariants.{Requires, Ensu
 ghost use Rattle.parsed_tree.specs.declared.expressions.Named.{Named};
 ghost use Rattle.parsed_tree.specs.declared.items.Param.{Param};
 ghost use Rattle.parsed_tree.specs.declared.items.Field.{Field};
+ghost use Rattle.parsed_tree.specs.declared.items.Head.{Head};
+ghost use Rattle.parsed_tree.specs.declared.items.ResultType.{ResultType};
 ghost use Rattle.parsed_tree.specs.Tree.{ClauseTree, ContractTree, PredicateTree, ItemTree};
 ghost use Rattle.parsed_tree.specs.Views.{clause_view, contract_view, predicate_view, item_view};
 ghost use Rattle.c0_grammar.specs.Tokens.{word_mark, end_mark};
-ghost use Rattle.c0_grammar.specs.Plan.{Plan, name, many, param_loop, contract_loop, clause_loop, predicate_loop, field_loop, items, param_plan, params_plan, clause_plan, contract_plan, predicate_plan, typed, typed_head, head_plan, struct_plan, predicates_plan, typedef_plan, after_item};
+ghost use Rattle.c0_grammar.specs.Plan.{Plan, name, many, param_loop, contract_loop, clause_loop, predicate_loop, field_loop, items, param_plan, params_plan, clause_plan, contract_plan, predicate_plan, typed, typed_head, behind_head, head_plan, struct_plan, predicates_plan, typedef_plan, after_item};
 ghost use Rattle.c0_cursor.specs.Seen.{reading, starts, Parsed};
 ghost use Rattle.c0_parse.specs.Seen.{one_clause};
 ghost use Rattle.c0_parse.specs.Read.{params_then, fields_then};
+ghost use Rattle.c0_parse.specs.Heads.{item_behind};
 
 use crate::part;
 use crate::statements::lines_of;
@@ -24,7 +27,7 @@ use c0_expressions::{deeper, expression, stated};
 use c0_lex::{Keyword, Symbol, Token, TokenKind};
 use gc0_base::{Limits, Place};
 use parsed_tree::{
-    Base, Clause, Contract, Field, Head, Item, Named, Param, PredicateText, ResultType, Side,
+    Base, Clause, Contract, Field, Head, Item, Named, Param, PredicateText, ResultType, Side, Stmt,
 };
 use sqlite_items::Items;
 use std::alloc::{AllocError, Global};
@@ -187,6 +190,80 @@ fn contracts_of<'t, 'a>(
     Ok((found, deepest, rest))
 }
 
+/// What stands behind the head of a function.
+#[derive(Drop)]
+pub enum Tail {
+    Prototype(Items<Contract>),
+    Function {
+        contract: Items<Contract>,
+        body: Items<Stmt>,
+        /// The place of the closing brace.
+        close: Place,
+    },
+}
+
+// The name of a function, and its parameters.
+fn named_params<'t, 'a>(
+    alloc: Global,
+    names: &Names<'a>,
+    tokens: &'t [Token<'a>],
+) -> Result<(Named, Items<Param>, &'t [Token<'a>]), Stop>
+    ensures reads { (returned : ResultType) → (next : ItemTree → ℕ → Plan) → Parsed (λ x. reading (behind_head names.now next (record { result = returned; name = x.0; params = x.1 })) x.2.now) (reading (head_plan names.now next returned) tokens.now) result }
+    ensures shorter { IfOk result (λ x. length x.2.now < length tokens.now) }
+{
+    let (name, rest) = part!(free_name(alloc, names, tokens));
+    let (_, rest) = part!(expect(Mark::Sign(Symbol::OpenParen), rest));
+    let (params, rest) = part!(params_of(alloc, names, rest));
+    Ok((name, params, rest))
+}
+
+// What stands behind a head: the contract, and the body or a `;`.
+fn tail_of<'t, 'a>(
+    alloc: Global,
+    names: &Names<'a>,
+    tokens: &'t [Token<'a>],
+) -> Result<(Tail, u32, &'t [Token<'a>]), Stop>
+    ensures reads { (head : Head) → (next : ItemTree → ℕ → Plan) → Parsed (λ x. reading (next (item_behind head x.0) x.1) x.2.now) (reading (behind_head names.now next head) tokens.now) result }
+    ensures room { IfOk result (λ x. x.1 ≤ Limits.NESTING) }
+    ensures shorter { IfOk result (λ x. length x.2.now < length tokens.now) }
+{
+    let (contract, above, rest) = part!(contracts_of(alloc, names, tokens));
+    if !begins(Mark::Sign(Symbol::OpenBrace), rest) {
+        let (_, rest) = part!(expect(Mark::Sign(Symbol::Semicolon), rest));
+        return Ok((Tail::Prototype(contract), above, rest));
+    }
+    let (_, rest) = part!(expect(Mark::Sign(Symbol::OpenBrace), rest));
+    let (body, depth, close, rest) = part!(lines_of(alloc, names, 1, rest));
+    Ok((
+        Tail::Function {
+            contract,
+            body,
+            close,
+        },
+        deeper(above, depth + 1),
+        rest,
+    ))
+}
+
+// The item of a head and of what stands behind it.
+fn item_made(head: Head, tail: Tail) -> Item
+    ensures { item_view result ≡ item_behind head tail }
+{
+    match tail {
+        Tail::Prototype(contract) => Item::Prototype { head, contract },
+        Tail::Function {
+            contract,
+            body,
+            close,
+        } => Item::Function {
+            head,
+            contract,
+            body,
+            close,
+        },
+    }
+}
+
 // A function behind its result: its name, parameters, contract, and its body or a `;`.
 fn head_behind<'t, 'a>(
     alloc: Global,
@@ -198,31 +275,14 @@ fn head_behind<'t, 'a>(
     ensures room { IfOk result (λ x. x.1 ≤ Limits.NESTING) }
     ensures shorter { IfOk result (λ x. length x.2.now < length tokens.now) }
 {
-    let (name, rest) = part!(free_name(alloc, names, tokens));
-    let (_, rest) = part!(expect(Mark::Sign(Symbol::OpenParen), rest));
-    let (params, rest) = part!(params_of(alloc, names, rest));
+    let (name, params, rest) = part!(named_params(alloc, names, tokens));
+    let (tail, depth, rest) = part!(tail_of(alloc, names, rest));
     let head = Head {
         result: returned,
         name,
         params,
     };
-    let (contract, above, rest) = part!(contracts_of(alloc, names, rest));
-    if !begins(Mark::Sign(Symbol::OpenBrace), rest) {
-        let (_, rest) = part!(expect(Mark::Sign(Symbol::Semicolon), rest));
-        return Ok((Item::Prototype { head, contract }, above, rest));
-    }
-    let (_, rest) = part!(expect(Mark::Sign(Symbol::OpenBrace), rest));
-    let (body, depth, close, rest) = part!(lines_of(alloc, names, 1, rest));
-    Ok((
-        Item::Function {
-            head,
-            contract,
-            body,
-            close,
-        },
-        deeper(above, depth + 1),
-        rest,
-    ))
+    Ok((item_made(head, tail), depth, rest))
 }
 
 // What stands behind the word `struct` at the front of an item, at this place.

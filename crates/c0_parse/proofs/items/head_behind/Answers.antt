@@ -1,167 +1,23 @@
 -- `head_behind`: what is left to show of its clauses.
-use Rattle.std.proofs.Common.{List, ap, arith, false, map, max, rules, sym, true, ℕ, ◌+◌, ◌∙◌, ◌≡◌, ◌≤◌}
-use Rattle.gc0_base.specs.declared.place.Place.{Place}
-use Rattle.parsed_tree.specs.declared.expressions.Named.{Named}
-use Rattle.parsed_tree.specs.declared.items.Param.{Param}
+use Rattle.std.proofs.Common.{ap, sym, ◌∙◌}
 use Rattle.parsed_tree.specs.declared.items.Head.{Head}
-use Rattle.parsed_tree.specs.declared.items.ResultType.{ResultType}
-use Rattle.parsed_tree.specs.Tree.{ContractTree, ItemTree, StmtTrees, function_item, prototype_item}
-use Rattle.parsed_tree.specs.Views.{contract_view, stmts_view}
-use Rattle.c0_grammar.specs.Tokens.{sign_mark}
-use Rattle.c0_grammar.specs.Plan.{Plan, await, behind_head, lines, params_plan, peek}
-use Rattle.c0_cursor.specs.Seen.{reading, starts}
-use Rattle.c0_cursor.specs.Laws.{fails_as, not_first}
-use Rattle.c0_expressions.specs.Laws.{peek_low}
-use Rattle.c0_lex.specs.declared.token.Symbol.TheVariants as mark
+use Rattle.c0_cursor.specs.Seen.{reading}
+use Rattle.c0_cursor.specs.Laws.{fails_as}
 use Rattle.c0_parse.proofs.items.head_behind.Goals as goal
-use Rattle.gc0_base.specs.declared.limits.TheConstants.Limits as limits
-
-abbrev function_of : (ItemTree → ℕ → Plan) → Head → List ContractTree → ℕ → StmtTrees → ℕ → Place → Plan
-function_of next h cs dc ss d e = next (function_item h cs ss e) (max dc (d + 1))
-
-abbrev with_body : List (List ℕ) → (ItemTree → ℕ → Plan) → Head → List ContractTree → ℕ → Place → Plan
-with_body names next h cs dc o = lines names 1 (function_of next h cs dc)
-
-abbrev prototype_of : (ItemTree → ℕ → Plan) → Head → List ContractTree → ℕ → Place → Plan
-prototype_of next h cs dc s = next (prototype_item h cs) dc
-
-abbrev without_body : (ItemTree → ℕ → Plan) → Head → List ContractTree → ℕ → Plan
-without_body next h cs dc = await 0 (sign_mark mark.Semicolon) (prototype_of next h cs dc)
-
-abbrev behind_contracts : List (List ℕ) → (ItemTree → ℕ → Plan) → Head → List ContractTree → ℕ → Plan
-behind_contracts names next h cs dc = peek 1 (sign_mark mark.OpenBrace) (with_body names next h cs dc) (without_body next h cs dc)
-
-abbrev head_of : ResultType → Named → List Param → Head
-head_of r n ps = record { result = r; name = n; params = ps }
-
-abbrev behind_params : List (List ℕ) → (ItemTree → ℕ → Plan) → ResultType → Named → List Param → Plan
-behind_params names next r n ps = behind_head names next (head_of r n ps)
-
-abbrev behind_paren : List (List ℕ) → (ItemTree → ℕ → Plan) → ResultType → Named → Place → Plan
-behind_paren names next r n a = params_plan names (behind_params names next r n)
-
-abbrev behind_result : List (List ℕ) → (ItemTree → ℕ → Plan) → ResultType → Named → Plan
-behind_result names next r n = await 0 (sign_mark mark.OpenParen) (behind_paren names next r n)
 
 pub returns-in-Err-clause-reads : goal.returns-in-Err-clause-reads
-returns-in-Err-clause-reads c = λ next. c.in-Err.ensures.reads (behind_result c.args.names.now next c.args.returned)
+returns-in-Err-clause-reads c = λ next. c.in-Err.ensures.reads c.args.returned next
 
-pub returns-in-Err-expect-clause-reads : goal.returns-in-Err-expect-clause-reads
-returns-in-Err-expect-clause-reads c = λ next.
-    let names = c.args.names.now in
-    let r = c.args.returned in
-    let n = c.in-Ok.value.0 in
-    fails_as _ _ _ (c.in-Ok.ensures.reads (behind_result names next r))
-    (c.in-Err-expect.ensures.reads (behind_paren names next r n))
-
-pub returns-in-Err-params_of-clause-reads : goal.returns-in-Err-params_of-clause-reads
-returns-in-Err-params_of-clause-reads c = λ next.
-    let names = c.args.names.now in
-    let r = c.args.returned in
-    let n = c.in-Ok.value.0 in
-    fails_as _ _ _ (c.in-Ok.ensures.reads (behind_result names next r)
-    ∙ c.in-Ok-expect.ensures.reads (behind_paren names next r n))
-    (c.in-Err-params_of.ensures.reads (behind_params names next r n))
-
-pub returns-in-Err-contracts_of-clause-reads : goal.returns-in-Err-contracts_of-clause-reads
-returns-in-Err-contracts_of-clause-reads c = λ next.
-    let names = c.args.names.now in
-    let r = c.args.returned in
-    let n = c.in-Ok.value.0 in
-    let h = head_of r n c.in-Ok-params_of.value.0 in
-    fails_as _ _ _ (c.in-Ok.ensures.reads (behind_result names next r)
-    ∙ c.in-Ok-expect.ensures.reads (behind_paren names next r n)
-    ∙ c.in-Ok-params_of.ensures.reads (behind_params names next r n))
-    (c.in-Err-contracts_of.ensures.reads (behind_contracts names next h))
-
-pub returns-in-Err-expect-2-clause-reads : goal.returns-in-Err-expect-2-clause-reads
-returns-in-Err-expect-2-clause-reads c = λ next.
-    let names = c.args.names.now in
-    let r = c.args.returned in
-    let n = c.in-Ok.value.0 in
-    let h = head_of r n c.in-Ok-params_of.value.0 in
-    let cs = map contract_view c.in-Ok-contracts_of.value.0 in
-    let dc = c.in-Ok-contracts_of.value.1 in
-    let ts = c.in-Ok-contracts_of.value.2.now in
-    let m : starts (sign_mark mark.OpenBrace) ts ≡ false = search rules in
-    fails_as _ _ _ (c.in-Ok.ensures.reads (behind_result names next r)
-    ∙ c.in-Ok-expect.ensures.reads (behind_paren names next r n)
-    ∙ c.in-Ok-params_of.ensures.reads (behind_params names next r n)
-    ∙ c.in-Ok-contracts_of.ensures.reads (behind_contracts names next h)
-    ∙ not_first 1 (sign_mark mark.OpenBrace) (with_body names next h cs dc) (without_body next h cs dc) ts m)
-    (c.in-Err-expect-2.ensures.reads (prototype_of next h cs dc))
-
-pub returns-then-not-begins-clause-reads : goal.returns-then-not-begins-clause-reads
-returns-then-not-begins-clause-reads c = λ next.
-    let names = c.args.names.now in
-    let r = c.args.returned in
-    let n = c.in-Ok.value.0 in
-    let h = head_of r n c.in-Ok-params_of.value.0 in
-    let cs = map contract_view c.in-Ok-contracts_of.value.0 in
-    let dc = c.in-Ok-contracts_of.value.1 in
-    let ts = c.in-Ok-contracts_of.value.2.now in
-    let m : starts (sign_mark mark.OpenBrace) ts ≡ false = search rules in
-    c.in-Ok.ensures.reads (behind_result names next r)
-    ∙ c.in-Ok-expect.ensures.reads (behind_paren names next r n)
-    ∙ c.in-Ok-params_of.ensures.reads (behind_params names next r n)
-    ∙ c.in-Ok-contracts_of.ensures.reads (behind_contracts names next h)
-    ∙ not_first 1 (sign_mark mark.OpenBrace) (with_body names next h cs dc) (without_body next h cs dc) ts m
-    ∙ c.in-Ok-expect-2.ensures.reads (prototype_of next h cs dc)
-
-pub returns-in-Err-expect-3-clause-reads : goal.returns-in-Err-expect-3-clause-reads
-returns-in-Err-expect-3-clause-reads c = λ next.
-    let names = c.args.names.now in
-    let r = c.args.returned in
-    let n = c.in-Ok.value.0 in
-    let h = head_of r n c.in-Ok-params_of.value.0 in
-    let cs = map contract_view c.in-Ok-contracts_of.value.0 in
-    let dc = c.in-Ok-contracts_of.value.1 in
-    let ts = c.in-Ok-contracts_of.value.2.now in
-    let y : starts (sign_mark mark.OpenBrace) ts ≡ true = search rules in
-    let b : 1 ≤ limits.NESTING = omega arith in
-    fails_as _ _ _ (c.in-Ok.ensures.reads (behind_result names next r)
-    ∙ c.in-Ok-expect.ensures.reads (behind_paren names next r n)
-    ∙ c.in-Ok-params_of.ensures.reads (behind_params names next r n)
-    ∙ c.in-Ok-contracts_of.ensures.reads (behind_contracts names next h)
-    ∙ peek_low 1 (sign_mark mark.OpenBrace) (with_body names next h cs dc) (without_body next h cs dc) ts b y)
-    (c.in-Err-expect-3.ensures.reads (with_body names next h cs dc))
-
-pub returns-in-Err-lines_of-clause-reads : goal.returns-in-Err-lines_of-clause-reads
-returns-in-Err-lines_of-clause-reads c = λ next.
-    let names = c.args.names.now in
-    let r = c.args.returned in
-    let n = c.in-Ok.value.0 in
-    let h = head_of r n c.in-Ok-params_of.value.0 in
-    let cs = map contract_view c.in-Ok-contracts_of.value.0 in
-    let dc = c.in-Ok-contracts_of.value.1 in
-    let ts = c.in-Ok-contracts_of.value.2.now in
-    let y : starts (sign_mark mark.OpenBrace) ts ≡ true = search rules in
-    let b : 1 ≤ limits.NESTING = omega arith in
-    fails_as _ _ _ (c.in-Ok.ensures.reads (behind_result names next r)
-    ∙ c.in-Ok-expect.ensures.reads (behind_paren names next r n)
-    ∙ c.in-Ok-params_of.ensures.reads (behind_params names next r n)
-    ∙ c.in-Ok-contracts_of.ensures.reads (behind_contracts names next h)
-    ∙ peek_low 1 (sign_mark mark.OpenBrace) (with_body names next h cs dc) (without_body next h cs dc) ts b y
-    ∙ c.in-Ok-expect-3.ensures.reads (with_body names next h cs dc))
-    (c.in-Err-lines_of.ensures.reads (function_of next h cs dc))
+pub returns-in-Err-tail_of-clause-reads : goal.returns-in-Err-tail_of-clause-reads
+returns-in-Err-tail_of-clause-reads c = λ next.
+    let h : Head = record { result = c.args.returned; name = c.in-Ok.value.0; params = c.in-Ok.value.1 } in
+    fails_as _ _ _ (c.in-Ok.ensures.reads c.args.returned next)
+    (c.in-Err-tail_of.ensures.reads h next)
 
 pub returns-clause-reads : goal.returns-clause-reads
 returns-clause-reads c = λ next.
-    let names = c.args.names.now in
-    let r = c.args.returned in
-    let n = c.in-Ok.value.0 in
-    let h = head_of r n c.in-Ok-params_of.value.0 in
-    let cs = map contract_view c.in-Ok-contracts_of.value.0 in
-    let dc = c.in-Ok-contracts_of.value.1 in
-    let ts = c.in-Ok-contracts_of.value.2.now in
-    let y : starts (sign_mark mark.OpenBrace) ts ≡ true = search rules in
-    let b : 1 ≤ limits.NESTING = omega arith in
-    let x = c.in-Ok-lines_of.value in
-    c.in-Ok.ensures.reads (behind_result names next r)
-    ∙ c.in-Ok-expect.ensures.reads (behind_paren names next r n)
-    ∙ c.in-Ok-params_of.ensures.reads (behind_params names next r n)
-    ∙ c.in-Ok-contracts_of.ensures.reads (behind_contracts names next h)
-    ∙ peek_low 1 (sign_mark mark.OpenBrace) (with_body names next h cs dc) (without_body next h cs dc) ts b y
-    ∙ c.in-Ok-expect-3.ensures.reads (with_body names next h cs dc)
-    ∙ c.in-Ok-lines_of.ensures.reads (function_of next h cs dc)
-    ∙ ap (λ k. reading (next (function_item h cs (stmts_view x.0) x.2) k) x.3.now) (sym c.deeper.ensures)
+    let h : Head = record { result = c.args.returned; name = c.in-Ok.value.0; params = c.in-Ok.value.1 } in
+    let x = c.in-Ok-tail_of.value in
+    c.in-Ok.ensures.reads c.args.returned next
+    ∙ c.in-Ok-tail_of.ensures.reads h next
+    ∙ ap (λ i. reading (next i x.1) x.2.now) (sym c.item_made.ensures)
