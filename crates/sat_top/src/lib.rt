@@ -16,6 +16,3 @@ pub use request::{Request, request_of};
 pub use status::Status;
 pub use target::Target;
 pub use top::solve;
-
-#[cfg(test)]
-mod tests;

@@ -2,8 +2,8 @@
 ghost use Rattle.std.specs.Prelude.{Some, ◌≡◌, ◌∷◌, ◌++◌};
 ghost use Rattle.sat_top.specs.Told.{made_of};
 
-use crate::Target;
 use gc0_io::Failed;
+use sat_top::Target;
 use std::alloc::Global;
 
 /// The file that was made last. Where it is to fail, each write does.

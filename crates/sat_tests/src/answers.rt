@@ -1,13 +1,10 @@
 //! The call over files in memory: answers, bad files, words, and each device failing once.
-use crate::{Status, solve};
+use crate::memory::MemTarget;
 use gc0_io::{MemFiles, MemSink};
+use sat_top::{Status, solve};
 use std::alloc::AllocError;
 use std::process::Abort;
 use std::test::Fail;
-
-mod memory;
-
-use memory::MemTarget;
 
 // Which calls are to fail: of the files, of the proof, of `out` and of `err`.
 type Failing = (Option<u64>, bool, Option<u64>, Option<u64>);
