@@ -5,4 +5,5 @@ pub mod Runs
 pub mod Holds
 pub mod Running
 pub mod Precision
+pub mod Framing
 pub mod Examples
