@@ -1,5 +1,5 @@
 -- Words that make no request.
-use Rattle.std.proofs.Common.{◌≡◌, ℕ, suc, List, [], ◌∷◌, length, map, None, refl, ◌≤◌, ◌<◌, arith}
+use Rattle.std.proofs.Common.{◌≡◌, ℕ, List, [], ◌∷◌, length, map, None, refl, ◌≤◌, ◌<◌, arith}
 use Rattle.gradual_top.specs.Requests.{asked_in}
 
 pub one_word : {A : Type 0} (f : A → List ℕ) (ws : List A) → 1 ≤ length ws → length ws < 2 → None ≡ asked_in (map f ws)

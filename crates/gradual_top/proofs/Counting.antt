@@ -1,5 +1,5 @@
 -- Lines of a text, one after another.
-use Rattle.std.proofs.Common.{◌≡◌, ℕ, suc, ◌-◌, ◌+◌, ◌<◌, List, refl, ap, ◌∙◌, sym, arith}
+use Rattle.std.proofs.Common.{◌≡◌, ℕ, suc, ◌-◌, ◌+◌, ◌<◌, List, ap, ◌∙◌, sym, arith}
 use Rattle.gradual_top.specs.Words.{behind_line, behind_ends}
 
 pub next_line : (line ended : ℕ) (rest next text : List ℕ) → ended < line → next ≡ behind_line rest → behind_ends (line - ended) rest ≡ behind_ends (line - 1) text → behind_ends (line - (ended + 1)) next ≡ behind_ends (line - 1) text

@@ -1,5 +1,5 @@
 -- What follows from the answer where the file and its text are given.
-use Rattle.std.proofs.Common.{◌≡◌, List, ℕ, [], length, Option, Some, None, IfSome, inl, inr, refl, sym, subst, ◌∙◌, ap, arith, ◌≤◌, ◌<◌}
+use Rattle.std.proofs.Common.{◌≡◌, List, ℕ, length, Option, Some, None, IfSome, inl, inr, refl, subst, ◌∙◌, ap, arith, ◌<◌}
 use Rattle.std.specs.Prelude.{◌⊎◌}
 use Rattle.gc0_base.specs.declared.limits.TheConstants.Limits as limits
 use Rattle.parsed_tree.specs.Tree.{ProgramTree}
@@ -7,8 +7,8 @@ use Rattle.c0_numbers.specs.Resolved.{resolved}
 use Rattle.gradual_top.specs.declared.status.Status.{Status}
 use Rattle.gradual_top.specs.declared.status.Status.TheVariants.{Returned, Stopped, Fault, StepsUsed, Refused, Limit, Absent, ReadFault, WriteFault, Memory, NotBuilt, Usage}
 use Rattle.gradual_top.specs.Requests.{Asked, asked_in}
-use Rattle.gradual_top.specs.Source.{HasTree, Verdict, refused, too_deep, unbuilt, runs, IsVerdict}
-use Rattle.gradual_top.specs.Outcomes.{Outputs, Call, Asks, Reaches, Ran, IsRun, TextAnswered, OutputFailed, Answered, Given, Faultless, IsEnding, IsMeant, Does, IsExact}
+use Rattle.gradual_top.specs.Source.{HasTree, Verdict, refused, too_deep, past, unbuilt, runs, IsVerdict}
+use Rattle.gradual_top.specs.Outcomes.{Outputs, Call, Asks, Reaches, Ran, IsRun, TextAnswered, OutputFailed, Answered, Given, Faultless, IsMeant, Does, IsExact}
 use Rattle.gradual_top.proofs.Verdicts.{Laws, same_tree, one_verdict}
 
 -- what was asked for
@@ -62,7 +62,8 @@ judged text n o Stopped a f = inl (record { verdict = runs a.tree; is = a.runnab
 judged text n o Fault a f = inl (record { verdict = runs a.tree; is = a.runnable; does = a.ran })
 judged text n o StepsUsed a f = inl (record { verdict = runs a.tree; is = a.runnable; does = a.ran })
 judged text n o Refused a f = inl (record { verdict = refused a.refusal; is = a.cause; does = (refl, a.says) })
-judged text n o Limit a f = inl (record { verdict = too_deep; is = a.deep; does = (refl, a.says) })
+judged text n o Limit (inl a) f = inl (record { verdict = too_deep; is = a.deep; does = (refl, a.says) })
+judged text n o Limit (inr a) f = inl (record { verdict = past a.tree a.limit; is = a.past; does = (refl, a.says) })
 judged text n o NotBuilt a f = inl (record { verdict = unbuilt a.place; is = a.unbuilt; does = (refl, a.says) })
 judged text n o WriteFault a f = absurd (f a.1)
 judged text n o Memory a f = inr refl

@@ -1,5 +1,5 @@
 -- From a line that was said to the answer.
-use Rattle.std.proofs.Common.{◌≡◌, List, ℕ, [], ◌∷◌, length, Option, Some, None, Result, Ok, Err, IfOk, IfErr, inl, inr, refl, sym, subst, ◌∙◌, ap, arith, append-nil}
+use Rattle.std.proofs.Common.{◌≡◌, List, ℕ, length, Option, Some, None, Result, Ok, Err, IfOk, IfErr, inl, inr, refl, sym, subst, ◌∙◌, ap, arith, append-nil}
 use Rattle.std.specs.Prelude.{◌⊎◌, ◌≤◌}
 use Rattle.std.proofs.Math.Seq.{take-length}
 use Rattle.std.specs.declared.alloc.AllocError.{AllocError}
@@ -17,7 +17,7 @@ use Rattle.gradual_top.specs.declared.status.Status.{Status}
 use Rattle.gradual_top.specs.declared.status.Status.TheVariants.{Returned, Stopped, Fault, StepsUsed, Refused, Limit, Absent, ReadFault, WriteFault, Memory, NotBuilt, Usage}
 use Rattle.gradual_top.specs.Source.{IsRunnable}
 use Rattle.gradual_top.specs.Lines.{line_of, status_of}
-use Rattle.gradual_top.specs.Outcomes.{Outputs, Call, Asks, Reaches, Answered, TextAnswered, Ends, Ran, run_of, Says}
+use Rattle.gradual_top.specs.Outcomes.{Outputs, Call, Asks, Answered, TextAnswered, Ends, Ran, run_of, Says}
 
 pub said : (P : Status → Type 0) (e0 e1 : ℕ) (old new : Option (List ℕ)) (line : List ℕ) (status answer : Status) → Says e0 e1 old new line status answer → (new ≡ append_known old line → P status) → (Rose e0 e1 → P WriteFault) → P answer
 said P e0 e1 old new line status answer (inl w) f g = subst P (sym w.0) (f w.1)

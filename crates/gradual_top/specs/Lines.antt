@@ -18,10 +18,14 @@ use Rattle.c0_parse.specs.declared.fault.ParseFault.{ParseFault}
 use Rattle.c0_parse.specs.declared.fault.ParseFault.TheVariants as parse
 use Rattle.c0_value_rules.specs.declared.violation.TypeFault.{TypeFault}
 use Rattle.c0_value_rules.specs.declared.violation.TypeFault.TheVariants as fault
+use Rattle.self_framing.specs.declared.fault.FrameFault.{FrameFault}
+use Rattle.self_framing.specs.declared.fault.FrameFault.TheVariants as frame
+use Rattle.program_limits.specs.declared.passed.Limit.{Limit as CountLimit}
+use Rattle.program_limits.specs.declared.passed.Limit.TheVariants as limit
 use Rattle.gradual_top.specs.declared.status.Status.{Status}
 use Rattle.gradual_top.specs.declared.status.Status.TheVariants.{Returned, Stopped, Fault, StepsUsed, Refused, Limit, Absent, ReadFault, WriteFault, Memory, NotBuilt, Usage}
 use Rattle.gradual_top.specs.Words.{word_at}
-use Rattle.gradual_top.specs.Source.{Refusal, lexical, parsing, typing}
+use Rattle.gradual_top.specs.Source.{Refusal, lexical, parsing, typing, framing}
 
 abbrev pub usage_line : List ℕ
 usage_line = codes "usage: run, full, check, explain, code, compare or self\n"
@@ -61,8 +65,9 @@ abbrev pub name_of : Option Function → List ℕ
 name_of None = []
 name_of (Some f) = f.name
 
-abbrev pub function_name : Program → Site → List ℕ
-function_name p site = name_of (slice_get p.functions site.function)
+-- the name of the function of a number
+abbrev pub function_name : Program → ℕ → List ℕ
+function_name p function = name_of (slice_get p.functions function)
 
 -- what stops a run at a site: at a call the callee is the word of the text there
 abbrev pub kind_word : Kind → List ℕ
@@ -80,7 +85,7 @@ kind_word kind.Trap = codes "access"
 abbrev pub kind_name : List ℕ → Program → Site → Place → Kind → List ℕ
 kind_name text p site place kind.Start = codes "main"
 kind_name text p site place kind.Requires = word_at text place
-kind_name text p site place kind.Ensures = function_name p site
+kind_name text p site place kind.Ensures = function_name p site.function
 kind_name text p site place k = []
 
 abbrev pub what_of : List ℕ → Program → Site → Place → List ℕ
@@ -144,11 +149,30 @@ type_line (fault.AssignedInEnsures p) = refused_at p (codes "assigned in ensures
 type_line (fault.NoMain p) = refused_at p (codes "no main")
 type_line fault.Memory = []
 
+-- the line of a fault of framing or guards
+abbrev pub frame_line : FrameFault → List ℕ
+frame_line (frame.NotFramed p) = refused_at p (codes "not framed")
+frame_line (frame.Unguarded p) = refused_at p (codes "unguarded")
+
 -- the line of a refusal
 abbrev pub refusal_line : Refusal → List ℕ
 refusal_line (lexical f) = lexical_line f
 refusal_line (parsing f) = parse_line f
 refusal_line (typing f) = type_line f
+refusal_line (framing f) = frame_line f
+
+-- a word, and a name at the end of its line
+abbrev pub name_line : List ℕ → List ℕ → List ℕ
+name_line word name = word ++ (name ++ codes "\n")
+
+-- the line of a limit of counts that a program passes; of a function with too much inside the name stands there
+abbrev pub limit_line : Program → CountLimit → List ℕ
+limit_line p limit.Structs = codes "limit structs\n"
+limit_line p limit.Predicates = codes "limit predicates\n"
+limit_line p limit.Functions = codes "limit functions\n"
+limit_line p (limit.Fields k) = codes "limit fields\n"
+limit_line p (limit.Locals f) = name_line (codes "limit locals ") (function_name p f)
+limit_line p (limit.Temporaries f) = name_line (codes "limit temporaries ") (function_name p f)
 
 -- the status of an ending
 abbrev pub status_of : Ending → Status

@@ -10,11 +10,12 @@ use Rattle.parsed_tree.specs.Tree.{ProgramTree}
 use Rattle.gc0_tree.specs.Tree.{Program}
 use Rattle.c0_numbers.specs.Resolved.{resolved}
 use Rattle.c0_meaning.specs.Running.{Seen, meaning}
+use Rattle.program_limits.specs.declared.passed.Limit.{Limit as CountLimit}
 use Rattle.gradual_top.specs.declared.status.Status.{Status}
 use Rattle.gradual_top.specs.declared.status.Status.TheVariants.{Returned, Stopped, Fault, StepsUsed, Refused, Limit, Absent, ReadFault, WriteFault, Memory, NotBuilt, Usage}
 use Rattle.gradual_top.specs.Requests.{Asked, asked_in}
-use Rattle.gradual_top.specs.Source.{HasTree, Refusal, IsRefused, IsTooDeep, IsSoundUnbuilt, IsRunnable, Verdict, refused, too_deep, unbuilt, runs, IsVerdict}
-use Rattle.gradual_top.specs.Lines.{usage_line, source_line, nesting_line, read_fault_line, absent_line, not_built_line, refusal_line, line_of, status_of}
+use Rattle.gradual_top.specs.Source.{HasTree, Refusal, IsRefused, IsTooDeep, IsPast, IsSoundUnbuilt, IsRunnable, Verdict, refused, too_deep, past, unbuilt, runs, IsVerdict}
+use Rattle.gradual_top.specs.Lines.{usage_line, source_line, nesting_line, read_fault_line, absent_line, not_built_line, refusal_line, limit_line, line_of, status_of}
 
 -- the outputs before and after a call: their counts of faults, and the bytes that were taken, where they are told
 pub record Outputs : Type 0 where
@@ -89,7 +90,14 @@ pub record SaysTooDeep (text : List ℕ) (outputs : Outputs) : Type 0 where
   pub deep : IsTooDeep text
   pub says : Refuses outputs nesting_line
 
--- the text has a sound tree and is none of the grammar that is built so far, as is first seen here
+-- the text has a sound tree that passes a limit of counts
+pub record SaysPast (text : List ℕ) (outputs : Outputs) : Type 0 where
+  pub tree : ProgramTree
+  pub limit : CountLimit
+  pub past : IsPast text tree limit
+  pub says : Refuses outputs (limit_line (resolved tree) limit)
+
+-- the text has a sound tree within the limits and is none of the grammar that is built so far, as is first seen here
 pub record SaysUnbuilt (text : List ℕ) (outputs : Outputs) : Type 0 where
   pub place : Place
   pub unbuilt : IsSoundUnbuilt text place
@@ -102,7 +110,7 @@ TextAnswered text n o Stopped = IsRun text n o Stopped
 TextAnswered text n o Fault = IsRun text n o Fault
 TextAnswered text n o StepsUsed = IsRun text n o StepsUsed
 TextAnswered text n o Refused = SaysRefused text o
-TextAnswered text n o Limit = SaysTooDeep text o
+TextAnswered text n o Limit = SaysTooDeep text o ⊎ SaysPast text o
 TextAnswered text n o NotBuilt = SaysUnbuilt text o
 TextAnswered text n o WriteFault = ((o.out_new ≡ o.out_old) ⊎ IsBegun text n o) × OutputFailed o
 TextAnswered text n o Memory = (o.out_new ≡ o.out_old) ⊎ IsBegun text n o
@@ -138,7 +146,7 @@ pub record IsTooLong (call : Call) : Type 0 where
   pub says : Refuses call.outputs source_line
 
 -- What an answer says. After WriteFault and Memory, `out` took nothing, or a front of what is
--- defined; after a refusal it took nothing.
+-- defined; after a refusal or a limit it took nothing.
 abbrev pub Answered : Call → Status → Type 0
 Answered call Returned = Reaches call Returned
 Answered call Stopped = Reaches call Stopped
@@ -189,6 +197,7 @@ pub record Faultless (call : Call) : Type 0 where
 abbrev pub Does : List ℕ → Verdict → ℕ → Outputs → Status → Type 0
 Does text (refused r) n o answer = (answer ≡ Refused) × Refuses o (refusal_line r)
 Does text too_deep n o answer = (answer ≡ Limit) × Refuses o nesting_line
+Does text (past tree l) n o answer = (answer ≡ Limit) × Refuses o (limit_line (resolved tree) l)
 Does text (unbuilt at) n o answer = (answer ≡ NotBuilt) × Refuses o (not_built_line at)
 Does text (runs tree) n o answer = Ran text (resolved tree) n o answer
 

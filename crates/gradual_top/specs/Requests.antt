@@ -1,5 +1,5 @@
 -- What the words of a command ask for. This project's own.
-use Rattle.std.specs.Prelude.{ℕ, Bool, List, [], ◌∷◌, Option, Some, None, nat_eq, nat_le, if◌then◌else◌, ◌&&◌, ◌||◌, ◌==◌, ◌*◌, ◌+◌, ◌-◌, not, codes, length, fold, option_map}
+use Rattle.std.specs.Prelude.{ℕ, Bool, List, [], ◌∷◌, Option, Some, None, nat_eq, nat_le, if◌then◌else◌, ◌&&◌, ◌||◌, ◌*◌, ◌+◌, ◌-◌, not, codes, length, fold, option_map}
 use Rattle.std.specs.List.{starts_with, list_all}
 use Rattle.std.specs.Str.{bytes_eq}
 use Rattle.gc0_base.specs.declared.limits.TheConstants.Limits as limits

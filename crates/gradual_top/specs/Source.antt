@@ -1,12 +1,14 @@
 -- What the text of a source file is: its tree, why it is refused, and whether it is built. This project's own.
-use Rattle.std.specs.Prelude.{◌≡◌, ℕ, List, [], map, Option, Some}
+use Rattle.std.specs.Prelude.{◌≡◌, ℕ, List, [], map, Some, None}
 use Rattle.std.specs.Option.{option_map}
 use Rattle.gc0_base.specs.declared.place.Place.{Place}
 use Rattle.gc0_base.specs.declared.limits.TheConstants.Limits as limits
+use Rattle.c0_lex.specs.declared.token.Token.{Token}
 use Rattle.c0_lex.specs.declared.fault.LexFault.{LexFault}
-use Rattle.c0_lex.specs.Texts.{Lexeme, HasTokens, HasFault}
+use Rattle.c0_lex.specs.Texts.{Lexeme, lexeme_of, HasTokens, HasFault}
 use Rattle.parsed_tree.specs.Tree.{ProgramTree}
 use Rattle.c0_grammar.specs.Lexemes.{read_tokens}
+use Rattle.c0_grammar.specs.Seen.{all_seen}
 use Rattle.c0_grammar.specs.Reads.{Reads}
 use Rattle.c0_parse.specs.declared.fault.ParseFault.{ParseFault}
 use Rattle.c0_parse.specs.declared.fault.ParseFault.TheVariants as parse
@@ -15,6 +17,12 @@ use Rattle.c0_parse.specs.Causes.{HasCause}
 use Rattle.c0_value_rules.specs.declared.violation.TypeFault.{TypeFault}
 use Rattle.c0_value_rules.specs.Violations.{least_of, fault_of}
 use Rattle.c0_rules.specs.Rules.{violations}
+use Rattle.c0_numbers.specs.Resolved.{resolved}
+use Rattle.gc0_tree.specs.Tree.{Program}
+use Rattle.self_framing.specs.declared.fault.FrameFault.{FrameFault}
+use Rattle.self_framing.specs.FrameFaults.{frame_faults, first_fault}
+use Rattle.program_limits.specs.declared.passed.Limit.{Limit}
+use Rattle.program_limits.specs.Counts.{limit_passed}
 use Rattle.built_text.specs.declared.token.Token.{Token as SmallToken}
 use Rattle.built_text.specs.Tree.{ProgramTree as SmallTree}
 use Rattle.built_text.specs.Grammar.{IsProgram}
@@ -41,10 +49,12 @@ pub record HasParseFault (text : List ℕ) (fault : ParseFault) : Type 0 where
   pub tokens : HasTokens text lexemes
   pub cause : HasCause (read_tokens lexemes) fault
 
--- a tree that no rule refuses: neither those of formulas and prototypes, nor those of types and scopes
+-- a tree that no rule refuses: neither those of formulas and prototypes, nor those of types and scopes, nor those of framing
+-- and guards
 pub record IsSound (tree : ProgramTree) : Type 0 where
   pub faultless : tree_faults tree ≡ []
   pub typed : violations tree ≡ []
+  pub framed : frame_faults (resolved tree) ≡ []
 
 -- the text has a tree, and this is its first violation of a typing rule
 pub record HasTypeFault (text : List ℕ) (fault : TypeFault) : Type 0 where
@@ -53,11 +63,20 @@ pub record HasTypeFault (text : List ℕ) (fault : TypeFault) : Type 0 where
   pub faultless : tree_faults tree ≡ []
   pub least : option_map fault_of (least_of (violations tree)) ≡ Some fault
 
+-- the text has a tree that breaks no typing rule, and this is its first fault of framing or guards
+pub record HasFrameFault (text : List ℕ) (fault : FrameFault) : Type 0 where
+  pub tree : ProgramTree
+  pub has : HasTree text tree
+  pub faultless : tree_faults tree ≡ []
+  pub typed : violations tree ≡ []
+  pub least : first_fault (frame_faults (resolved tree)) ≡ Some fault
+
 -- why a text is refused
 pub data Refusal : Type 0 where
   lexical : LexFault → Refusal
   parsing : ParseFault → Refusal
   typing : TypeFault → Refusal
+  framing : FrameFault → Refusal
 
 -- The text is refused for this. Want of memory is no such cause, and that a text is too deep passes a limit.
 abbrev pub IsRefused : List ℕ → Refusal → Type 0
@@ -68,6 +87,7 @@ IsRefused text (parsing (parse.ContractOnPrototype at)) = HasParseFault text (pa
 IsRefused text (parsing (parse.DeepRead at)) = HasParseFault text (parse.DeepRead at)
 IsRefused text (parsing parse.Memory) = ⊥
 IsRefused text (typing f) = HasTypeFault text f
+IsRefused text (framing f) = HasFrameFault text f
 
 -- each tree of the text is too deep
 pub record IsTooDeep (text : List ℕ) : Type 0 where
@@ -87,29 +107,41 @@ pub record IsUnbuilt (text : List ℕ) (place : Place) : Type 0 where
   pub tokens : HasTokens text lexemes
   pub fault : FirstFault (small_tokens lexemes) place
 
--- the text has this tree, no rule refuses it, and it is built
+-- the text has this tree, no rule refuses it, and this is the first limit of counts that it passes
+pub record IsPast (text : List ℕ) (tree : ProgramTree) (limit : Limit) : Type 0 where
+  pub has : HasTree text tree
+  pub sound : IsSound tree
+  pub passed : limit_passed (resolved tree) ≡ Some limit
+
+-- the text has this tree, no rule refuses it, it is within the limits, and it is built
 pub record IsRunnable (text : List ℕ) (tree : ProgramTree) : Type 0 where
   pub has : HasTree text tree
   pub sound : IsSound tree
+  pub within : limit_passed (resolved tree) ≡ None
   pub small : IsSmall text
 
 -- what a text is to this program
 pub data Verdict : Type 0 where
   refused : Refusal → Verdict
+  -- each tree of it is too deep
   too_deep : Verdict
+  -- it passes a limit of counts
+  past : (tree : ProgramTree) → Limit → Verdict
   unbuilt : Place → Verdict
   runs : ProgramTree → Verdict
 
--- the text has a tree that no rule refuses, but is none of the grammar that is built so far
+-- the text has a tree that no rule refuses, within the limits, but is none of the grammar that is built so far
 pub record IsSoundUnbuilt (text : List ℕ) (place : Place) : Type 0 where
   pub tree : ProgramTree
   pub has : HasTree text tree
   pub sound : IsSound tree
+  pub within : limit_passed (resolved tree) ≡ None
   pub unbuilt : IsUnbuilt text place
 
 abbrev pub IsVerdict : List ℕ → Verdict → Type 0
 IsVerdict text (refused r) = IsRefused text r
 IsVerdict text too_deep = IsTooDeep text
+IsVerdict text (past tree l) = IsPast text tree l
 IsVerdict text (unbuilt at) = IsSoundUnbuilt text at
 IsVerdict text (runs tree) = IsRunnable text tree
 
@@ -120,3 +152,12 @@ OneVerdict = (text : List ℕ) (v w : Verdict) → IsVerdict text v → IsVerdic
 -- and each text has one
 abbrev pub EachVerdict : Type 0
 EachVerdict = (text : List ℕ) → (v : Verdict) × IsVerdict text v
+
+-- what is known of a text where its program was resolved: its tokens, its tree, which breaks no rule so far, and the program
+pub record IsResolved (text : List ℕ) (tokens : List Token) (program : Program) : Type 0 where
+  pub tree : ProgramTree
+  pub lexed : HasTokens text (map lexeme_of tokens)
+  pub reads : Reads most_nodes (all_seen tokens) tree
+  pub faultless : tree_faults tree ≡ []
+  pub typed : violations tree ≡ []
+  pub resolves : program ≡ resolved tree

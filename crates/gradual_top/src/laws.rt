@@ -5,8 +5,8 @@ use built_text::{cut_ends_last, each_tokens};
 use c0_grammar::{one_tree, run_is_exact};
 use c0_lex::{each_text, never_both, one_fault, one_list};
 
-/// A text has at most one verdict: refused for one fault, too deep, not built at one place, or
-/// run.
+/// A text has at most one verdict: refused for one fault, too deep, past one limit of counts, not
+/// built at one place, or run.
 pub fn one_verdict()
     ensures { OneVerdict }
 {

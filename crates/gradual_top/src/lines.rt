@@ -1,7 +1,7 @@
 //! The one line that goes to the error output.
 ghost use Rattle.std.specs.Prelude.{◌≡◌, ◌≢◌, ◌++◌, OnOk, IfOk, codes};
 ghost use Rattle.gc0_tree.specs.Views.{program_view};
-ghost use Rattle.gradual_top.specs.Lines.{place_text, place_line, fault_word, what_of, function_name, stop_place, or_nowhere, line_of, absent_line, not_built_line, refused_at, lexical_line, parse_line, type_line};
+ghost use Rattle.gradual_top.specs.Lines.{place_text, place_line, fault_word, what_of, function_name, stop_place, or_nowhere, line_of, absent_line, not_built_line, refused_at, lexical_line, parse_line, type_line, frame_line, name_line, limit_line};
 
 use crate::word::word_at;
 use c0_lex::LexFault;
@@ -9,6 +9,8 @@ use c0_parse::ParseFault;
 use c0_types::TypeFault;
 use gc0_base::{Ending, Kind, Place, Site, TrapKind};
 use gc0_tree::{Program, place_of};
+use program_limits::Limit;
+use self_framing::FrameFault;
 use std::alloc::{AllocError, Global};
 
 /// The line of an ending, with its line end. The text is that of the program.
@@ -107,6 +109,43 @@ pub fn type_text(alloc: Global, fault: TypeFault) -> Result<Vec<u8>, AllocError>
     }
 }
 
+/// The line of a fault of framing or guards.
+pub fn frame_text(alloc: Global, fault: FrameFault) -> Result<Vec<u8>, AllocError>
+    ensures { IfOk result (λ line. line.items ≡ frame_line fault) }
+{
+    match fault {
+        FrameFault::NotFramed(place) => refused_at(alloc, place, b"not framed"),
+        FrameFault::Unguarded(place) => refused_at(alloc, place, b"unguarded"),
+    }
+}
+
+/// The line of a limit of counts that a program passes.
+pub fn limit_text(alloc: Global, program: &Program, limit: Limit) -> Result<Vec<u8>, AllocError>
+    ensures { IfOk result (λ line. line.items ≡ limit_line (program_view program.now) limit) }
+{
+    match limit {
+        Limit::Structs => Vec::from_slice(alloc, b"limit structs\n"),
+        Limit::Predicates => Vec::from_slice(alloc, b"limit predicates\n"),
+        Limit::Functions => Vec::from_slice(alloc, b"limit functions\n"),
+        Limit::Fields(_) => Vec::from_slice(alloc, b"limit fields\n"),
+        Limit::Locals(number) => {
+            name_line(alloc, b"limit locals ", function_name(program, number))
+        }
+        Limit::Temporaries(number) => {
+            name_line(alloc, b"limit temporaries ", function_name(program, number))
+        }
+    }
+}
+
+// A word, and a name at the end of its line.
+fn name_line(alloc: Global, word: &[u8], name: &[u8]) -> Result<Vec<u8>, AllocError>
+    ensures { IfOk result (λ line. line.items ≡ name_line word.now name.now) }
+{
+    let mut line = named(alloc, word, name)?;
+    put(&mut line, b"\n")?;
+    Ok(line)
+}
+
 // The line of a rule that is broken at a place.
 fn refused_at(alloc: Global, place: Place, cause: &[u8]) -> Result<Vec<u8>, AllocError>
     ensures { IfOk result (λ line. line.items ≡ refused_at place cause.now) }
@@ -148,7 +187,7 @@ fn what_of(
     match site.kind {
         Kind::Start => named(alloc, b"requires ", b"main"),
         Kind::Requires => named(alloc, b"requires ", word_at(text, place)),
-        Kind::Ensures => named(alloc, b"ensures ", function_name(program, site)),
+        Kind::Ensures => named(alloc, b"ensures ", function_name(program, site.function)),
         Kind::Entry | Kind::Again => named(alloc, b"loop_invariant", b""),
         Kind::Assert => named(alloc, b"assert", b""),
         Kind::Fold => named(alloc, b"fold", b""),
@@ -166,11 +205,11 @@ fn named(alloc: Global, word: &[u8], name: &[u8]) -> Result<Vec<u8>, AllocError>
     Ok(what)
 }
 
-// The name of the function of a site.
-fn function_name(program: &Program, site: Site) -> &[u8]
-    ensures { result.now ≡ function_name (program_view program.now) site }
+// The name of the function of a number.
+fn function_name(program: &Program, number: u32) -> &[u8]
+    ensures { result.now ≡ function_name (program_view program.now) number }
 {
-    match program.functions.get(site.function as usize) {
+    match program.functions.get(number as usize) {
         Some(function) => function.name.as_slice(),
         None => b"",
     }

@@ -9,19 +9,25 @@ ghost use Rattle.stack_code.specs.Views.{code_view};
 ghost use Rattle.stack_code.specs.Machine.{run_code};
 ghost use Rattle.stack_runner.specs.Built.{IsBuiltCode};
 ghost use Rattle.gradual_top.specs.Lines.{parse_status, status_of};
+ghost use Rattle.gradual_top.specs.Source.{IsResolved};
 ghost use Rattle.gradual_top.specs.Outcomes.{Answered, TextAnswered, IsMeant, IsExact, Ends, Says};
 
-use crate::lines::{absent_text, ending_text, lexical_text, not_built_text, parse_text, type_text};
+use crate::lines::{
+    absent_text, ending_text, frame_text, lexical_text, limit_text, not_built_text, parse_text,
+    type_text,
+};
 use crate::request::request_of;
 use crate::status::Status;
 use built_text::{ReadFault, built_forms, cut_ends_last, read};
 use c0_grammar::one_tree;
-use c0_lex::{never_both, one_fault, one_list, tokens};
+use c0_lex::{Token, never_both, one_fault, one_list, tokens};
 use c0_parse::{ParseFault, parse};
 use c0_types::resolve;
 use gc0_base::{Ending, Limits};
 use gc0_io::{Fetched, Files, Sink, Source, write_all};
 use gc0_tree::Program;
+use program_limits::limit_passed;
+use self_framing::check_framing;
 use stack_code::{Code, generate};
 use stack_runner::{Machine, RunFault, built_programs_have_built_code};
 use std::alloc::{AllocError, Global};
@@ -58,7 +64,8 @@ pub fn gradual<F: Files, S: Source, O: Sink, E: Sink>(
       read_after = F.faults files.new;
       outputs = record { out_before = O.faults out.old; out_after = O.faults out.new; err_before = E.faults err.old; err_after = E.faults err.new; out_old = O.taken out.old; out_new = O.taken out.new; err_old = E.taken err.old; err_new = E.taken err.new };
     }) result }
-    // Where no device fails, a text gets exactly what it is due: its first fault, or its run.
+    // Where no device fails, a text gets exactly what it is due: its first fault, the limit that it
+    // passes, or its run.
     ensures exact { IsExact (record {
       words = map string_bytes words.now;
       files = F.contents files.old;
@@ -112,7 +119,7 @@ fn serve<F: Files, O: Sink, E: Sink>(
     serve_text(alloc, text.as_slice(), request.steps(), out, err)
 }
 
-// Reads the program of a text and runs it, or says why it can't be run.
+// Reads the program of a text and resolves it, or says why it can't be run.
 fn serve_text<O: Sink, E: Sink>(
     alloc: Global,
     text: &[u8],
@@ -126,8 +133,6 @@ fn serve_text<O: Sink, E: Sink>(
     ensures out_later { O.faults out.old ≤ O.faults out.new }
     ensures err_later { E.faults err.old ≤ E.faults err.new }
 {
-    cut_ends_last();
-    built_forms();
     let tokens = match tokens(alloc, text) {
         Ok(tokens) => tokens,
         Err(fault) => return say_text(err, lexical_text(alloc, fault), Status::Refused),
@@ -140,14 +145,44 @@ fn serve_text<O: Sink, E: Sink>(
         Ok(program) => program,
         Err(fault) => return say_text(err, type_text(alloc, fault), Status::Refused),
     };
-    match read(alloc, &tokens) {
+    serve_program(alloc, text, &tokens, &program, steps, out, err)
+}
+
+// Runs a program that was resolved, or says which rule of framing it breaks, which limit it passes,
+// or what of its text isn't built.
+fn serve_program<O: Sink, E: Sink>(
+    alloc: Global,
+    text: &[u8],
+    tokens: &[Token<'_>],
+    program: &Program,
+    steps: u64,
+    out: &mut O,
+    err: &mut E,
+) -> Status
+    requires resolved { IsResolved text.now tokens.now (program_view program.now) }
+    requires few { steps ≤ Limits.STEPS }
+    ensures answer { TextAnswered text.now steps (record { out_before = O.faults out.old; out_after = O.faults out.new; err_before = E.faults err.old; err_after = E.faults err.new; out_old = O.taken out.old; out_new = O.taken out.new; err_old = E.taken err.old; err_new = E.taken err.new }) result }
+    ensures out_later { O.faults out.old ≤ O.faults out.new }
+    ensures err_later { E.faults err.old ≤ E.faults err.new }
+{
+    cut_ends_last();
+    built_forms();
+    match check_framing(program) {
+        Ok(()) => {}
+        Err(fault) => return say_text(err, frame_text(alloc, fault), Status::Refused),
+    }
+    match limit_passed(program) {
+        None => {}
+        Some(limit) => return say_text(err, limit_text(alloc, program, limit), Status::Limit),
+    }
+    match read(alloc, tokens) {
         Ok(_) => {}
         Err(ReadFault::NotBuilt(place)) => {
             return say_text(err, not_built_text(alloc, place), Status::NotBuilt);
         }
         Err(ReadFault::Memory) => return say(err, b"memory\n", Status::Memory),
     }
-    run_program(alloc, text, &program, steps, out, err)
+    run_program(alloc, text, program, steps, out, err)
 }
 
 // Runs a program, and writes the line of its end.

@@ -1,5 +1,4 @@
 -- Words of another number make no request.
-use Rattle.std.proofs.Common.{map}
 use Rattle.gradual_top.proofs.Asking.{one_word, three_words}
 use Rattle.gradual_top.proofs.request.request_of.Goals as goal
 

@@ -1,7 +1,7 @@
 -- The code is one that can be run, and what its end says.
-use Rattle.std.proofs.Common.{[], sym, refl, subst}
+use Rattle.std.proofs.Common.{[], sym, subst}
 use Rattle.stack_runner.specs.Built.{IsBuiltCode}
-use Rattle.gradual_top.proofs.Said.{ok_ends, unrun_ends}
+use Rattle.gradual_top.proofs.Said.{ok_ends}
 use Rattle.gradual_top.proofs.top.run_program.Goals as goal
 
 pub run_code-requires-clause-built : goal.run_code-requires-clause-built

@@ -1,5 +1,5 @@
 -- The answer for a file that is not there, and for one that was fetched.
-use Rattle.std.proofs.Common.{◌≡◌, refl, inl, inr, sym}
+use Rattle.std.proofs.Common.{refl, inl, inr, sym}
 use Rattle.gradual_top.specs.Outcomes.{Answered}
 use Rattle.gradual_top.specs.Requests.{asked_of, file_of, steps_of}
 use Rattle.gradual_top.proofs.Said.{text_said, reached}
