@@ -1,7 +1,6 @@
 //! Texts with a fault of each kind, and how they are refused.
 
-use crate::running::{NONE, row};
-use std::process::Abort;
+use crate::running::{NONE, refused, row};
 use std::test::Fail;
 
 // Each text is refused with this line. Places and causes were worked out by hand from the rules in
@@ -482,18 +481,11 @@ static SOUND: [(&str, &str, u8); 17] = [
         14,
     ),
     (
-        "struct s { int v; bool b; struct s* n; }; /*@ predicate p(struct s* x) = x == NULL ? true : acc(x->v) && p(x->n); @*/ int main() { struct s* q = NULL; /*@ fold p(q); unfold p(q); assert p(q) && q == NULL; @*/ return 0; }",
+        "struct s { int v; bool b; struct s* n; }; /*@ predicate p(struct s* x) = x == NULL ? true : acc(x->n) && p(x->n); @*/ int main() { struct s* q = NULL; /*@ fold p(q); unfold p(q); assert p(q) && q == NULL; @*/ return 0; }",
         "not built 1:1\n",
         14,
     ),
 ];
-
-fn refused(rt: &(impl Abort + AllocGlobal), rows: &[(&str, &str)]) -> Result<(), Fail> {
-    for (text, line) in rows {
-        row(rt, &["run", "a.c0"], text.as_bytes(), NONE, ("", line, 4))?;
-    }
-    Ok(())
-}
 
 #[test]
 fn lexical_faults_are_named(rt: HostRuntime) -> Result<(), Fail> {

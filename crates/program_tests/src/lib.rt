@@ -5,4 +5,8 @@
 #[cfg(test)]
 mod faults;
 #[cfg(test)]
+mod framing;
+#[cfg(test)]
+mod limits;
+#[cfg(test)]
 mod running;

@@ -45,6 +45,14 @@ pub fn row(
     Ok(())
 }
 
+/// Each of these texts is refused with its line.
+pub fn refused(rt: &(impl Abort + AllocGlobal), rows: &[(&str, &str)]) -> Result<(), Fail> {
+    for (text, line) in rows {
+        row(rt, &["run", "a.c0"], text.as_bytes(), NONE, ("", line, 4))?;
+    }
+    Ok(())
+}
+
 #[test]
 fn programs_are_run_or_refused(rt: HostRuntime) -> Result<(), Fail> {
     one_verdict();
