@@ -5,5 +5,6 @@ pub mod Runs
 pub mod Holds
 pub mod Running
 pub mod Precision
+pub mod Marking
 pub mod Framing
 pub mod Examples

@@ -4,7 +4,10 @@
 ghost use Rattle.std.specs.Prelude.{◌≡◌};
 ghost use Rattle.c0_meaning.specs.Examples.{forever_0, forever_3, forever_5, counting_million, counting_14, counting_13, halving_stops, asserting_stops, asserting_sites, wrapping_prints};
 
+mod plain;
+
 use gc0_tree::{Formula, Program};
+pub use plain::is_plain;
 
 /// Whether a formula has a `?`.
 pub fn is_imprecise(_program: &Program, formula: &Formula) -> bool
