@@ -1,0 +1,4 @@
+-- The definitions that the contracts cite.
+pub mod CoreTree
+pub mod CoreViews
+pub mod CoreSites
