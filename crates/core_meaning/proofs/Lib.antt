@@ -1,0 +1,3 @@
+-- What the contracts stand on.
+pub mod Asking
+pub mod Stepping
