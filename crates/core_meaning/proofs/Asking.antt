@@ -11,11 +11,11 @@ use Rattle.core_tree.specs.declared.Origin.{Origin}
 use Rattle.core_tree.specs.declared.Origin.TheVariants.{Branch, Choice}
 use Rattle.core_tree.specs.declared.DecisionAt.{DecisionAt}
 use Rattle.core_tree.specs.CoreTree.{CoreStmt, do_step, do_set, do_unary, do_binary, do_load, do_store, do_new, do_call, do_library, do_if, do_loop, do_return, do_assert, do_raise, do_note, Code, no_code, code_and, CoreFunction, Core}
-use Rattle.core_tree.specs.CoreSites.{choice_decision, origin_in, origin_of, HasChoice}
+use Rattle.core_tree.specs.CoreSites.{choice_decision, origin_in, origin_of}
 use Rattle.core_meaning.specs.Choices.{ChoiceOf, choices, instance_body}
 use Rattle.core_meaning.specs.CoreRunning.{before_of, after_of, start_at}
-use Rattle.core_meaning.specs.Deciding.{Due, branch_due, choices_due, formula_due, body_due, note_due, stmt_due, code_due, start_due, function_due, AreNumbered}
-use Rattle.core_meaning.specs.Stepped.{EachFrom, AreDecided, IsStepped, CanBeAsked, choice_law}
+use Rattle.core_meaning.specs.Deciding.{Due, choices_due, formula_due, body_due, note_due, stmt_due, code_due, start_due, function_due, AreNumbered}
+use Rattle.core_meaning.specs.Stepped.{EachFrom, AreDecided, CanBeAsked, choice_law}
 
 -- ---- lists
 both : {X : Type 0} (P : X → Type 0) (xs ys : List X) → AllByRecursion P xs → AllByRecursion P ys → AllByRecursion P (xs ++ ys)

@@ -11,7 +11,7 @@ use Rattle.gc0_tree.specs.declared.Shape.TheVariants as shape
 use Rattle.gc0_tree.specs.declared.UnaryOp.TheVariants as unary
 use Rattle.gc0_tree.specs.declared.ExprOp.TheVariants as op
 use Rattle.gc0_tree.specs.declared.LibraryCall.TheVariants as library
-use Rattle.gc0_tree.specs.Tree.{Tree, number_at, truth_at, null_at, local_at, result_at, binary_at, read_at, no_parts, value_part, acc_part, instance_part, choice_part, Formula, fold_note, unfold_note, Struct, Predicate}
+use Rattle.gc0_tree.specs.Tree.{Tree, number_at, truth_at, null_at, local_at, result_at, binary_at, read_at, no_parts, value_part, acc_part, instance_part, choice_part, Formula, fold_note, unfold_note, Struct, Predicate, Program}
 use Rattle.core_tree.specs.declared.BinaryOp.TheVariants.{Add, Div, Less, Equal}
 use Rattle.core_tree.specs.declared.Simple.{Simple}
 use Rattle.core_tree.specs.declared.Simple.TheVariants.{Const, Local}
@@ -23,6 +23,8 @@ use Rattle.core_tree.specs.declared.SiteAt.{SiteAt}
 use Rattle.core_tree.specs.declared.SiteTable.{SiteTable}
 use Rattle.core_tree.specs.CoreTree.{CoreStmt, do_step, do_set, do_unary, do_binary, do_load, do_store, do_new, do_call, do_library, do_if, do_loop, do_return, do_note, CoreFunction, Core}
 use Rattle.core_tree.specs.CoreViews.{code_of}
+use Rattle.c0_meaning.specs.Running.{meaning, sites}
+use Rattle.c0_meaning.specs.Examples as source
 use Rattle.c0_meaning.specs.Examples.{place, site, anything, precisely, one, int}
 use Rattle.core_meaning.specs.CoreRuns.{Outcomes, Visit}
 use Rattle.core_meaning.specs.CoreRunning.{core_meaning, visits, core_sites}
@@ -517,6 +519,66 @@ reading_faults = core_meaning reading [] 1000000 ≡ ([], Fault trap.InputEnd (s
 
 abbrev pub reading_returns : Type 0
 reading_returns = core_meaning reading (2147483648 ∷ []) 1000000 ≡ ([], Returned record { 0 = 2147483648 })
+
+-- ---- beside the meaning of the program
+abbrev pub steps_to_40 : List ℕ
+steps_to_40 =
+    0 ∷ 1 ∷ 2 ∷ 3 ∷ 4 ∷ 5 ∷ 6 ∷ 7 ∷ 8 ∷ 9 ∷ 10 ∷ 11 ∷ 12 ∷ 13 ∷ 14 ∷ 15 ∷ 16 ∷ 17 ∷ 18 ∷ 19 ∷ 20
+    ∷ 21 ∷ 22 ∷ 23 ∷ 24 ∷ 25 ∷ 26 ∷ 27 ∷ 28 ∷ 29 ∷ 30 ∷ 31 ∷ 32 ∷ 33 ∷ 34 ∷ 35 ∷ 36 ∷ 37 ∷ 38 ∷ 39 ∷ 40 ∷ []
+
+-- a core shows what a program shows, and decides at the same sites, with few steps of each number
+abbrev pub Agree : Core → Program → Type 0
+Agree c p =
+    (map (core_meaning c []) steps_to_40 ≡ map (meaning p []) steps_to_40) × (map (core_sites c []) steps_to_40 ≡ map (sites p []) steps_to_40)
+
+abbrev pub counting_agrees : Type 0
+counting_agrees = Agree counting source.counting
+
+-- int half(int x)
+-- //@requires 0 <= x;
+-- //@ensures \result <= x;
+-- {
+--   int h = 0;
+--   while (h + h < x)
+--   //@loop_invariant h <= x;
+--   { h = h + 1; }
+--   return h;
+-- }
+-- int main() {
+--   int a = half(7);
+--   int b = half(-1);
+--   return a;
+-- }
+abbrev pub halving : Core
+halving = core [] [] (record {
+  name = codes "half";
+  place = place 1 5;
+  params = 1;
+  locals = int ∷ int ∷ [];
+  temps = shape.Int ∷ shape.Bool ∷ shape.Int ∷ [];
+  result = Some shape.Int;
+  before = source.half.before;
+  after = source.half.after;
+  plain = true;
+  paths = 1;
+  decisions = branch_at 6 3 ∷ [];
+  sites = record (sites_from (row 1 5 0 0)) { returns = row 9 3 1 1 ∷ []; entry = row 6 3 0 0 ∷ []; again = row 6 3 1 1 ∷ [] };
+  body = code_of (do_step ∷ do_set 1 (word 0)
+      ∷ do_step ∷ do_loop (site 0 Entry 0) (site 0 Again 0)
+      (precisely (value_part (binary_at (place 7 23) op.LessEq (local_at (place 7 21) 1) (local_at (place 7 26) 0)) no_parts))
+      (decision 0 0)
+      (code_of (do_step ∷ do_binary 2 Add (local 1) (local 1) None ∷ do_binary 3 Less (local 2) (local 0) None ∷ []))
+      (local 3)
+      (code_of (do_step ∷ do_binary 4 Add (local 1) (word 1) None ∷ do_set 1 (local 4) ∷ []))
+      ∷ do_step ∷ do_return (Some (local 1)) (site 0 Ensures 0) ∷ []);
+} ∷ main_at 11 (int ∷ int ∷ []) (shape.Int ∷ shape.Int ∷ shape.Int ∷ shape.Int ∷ []) []
+    (record (sites_from (row 11 5 0 0)) { calls = row_about 0 (row 12 11 0 0) ∷ row_about 0 (row 13 11 0 0) ∷ []; returns = row 14 3 0 0 ∷ [] })
+    (do_step ∷ do_set 2 (word 7) ∷ do_step ∷ do_call (Some 3) 0 (2 ∷ []) (site 1 Requires 0) ∷ do_set 0 (local 3)
+    ∷ do_step ∷ do_unary 4 unary.Neg (word 1) ∷ do_step ∷ do_call (Some 5) 0 (4 ∷ []) (site 1 Requires 1) ∷ do_set 1 (local 5)
+    ∷ do_step ∷ do_return (Some (local 0)) (site 1 Ensures 0) ∷ []) ∷ []) 1
+
+abbrev pub halving_agrees : Type 0
+halving_agrees = Agree halving source.halving
 
 -- ---- stepped cores
 abbrev pub counting_stepped : Type 0

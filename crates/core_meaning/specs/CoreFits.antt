@@ -49,17 +49,17 @@ OperandsFit words binary.Equal a b = (s : Shape) × SimpleFits words s a × Simp
 OperandsFit words o a b = SimpleFits words Int a × SimpleFits words Int b
 
 -- one local for each parameter
-abbrev pub AreGiven : List Shape → (due : List Shape) → (arguments : List ℕ) → Type 0
-AreGiven words [] [] = Unit {0}
-AreGiven words [] (i ∷ is) = ⊥
-AreGiven words (s ∷ ss) [] = ⊥
-AreGiven words (s ∷ ss) (i ∷ is) = SimpleFits words s (simple.Local i) × AreGiven words ss is
+abbrev pub ArgumentsFit : List Shape → (due : List Shape) → (arguments : List ℕ) → Type 0
+ArgumentsFit words [] [] = Unit {0}
+ArgumentsFit words [] (i ∷ is) = ⊥
+ArgumentsFit words (s ∷ ss) [] = ⊥
+ArgumentsFit words (s ∷ ss) (i ∷ is) = SimpleFits words s (simple.Local i) × ArgumentsFit words ss is
 
 -- an argument, or none where none is due
-abbrev pub IsGiven : List Shape → (due : List Shape) → Option Simple → Type 0
-IsGiven words [] None = Unit {0}
-IsGiven words (s ∷ []) (Some a) = SimpleFits words s a
-IsGiven words due a = ⊥
+abbrev pub ArgumentFits : List Shape → (due : List Shape) → Option Simple → Type 0
+ArgumentFits words [] None = Unit {0}
+ArgumentFits words (s ∷ []) (Some a) = SimpleFits words s a
+ArgumentFits words due a = ⊥
 
 -- a `return` has a value exactly where the function has a result
 abbrev pub ReturnFits : List Shape → (due : Option Shape) → Option Simple → Type 0
@@ -102,9 +102,9 @@ abbrev mutual
       SimpleFits (word_shapes f) (Pointer k) base × (s : Shape) × (field_shape (around c) k field ≡ Some s) × SimpleFits (word_shapes f) s value
   CoreStmtFits c f (do_new to k) = Takes (word_shapes f) (Pointer k) to × (is_some (slice_get c.structs k) ≡ true)
   CoreStmtFits c f (do_call to g args site) =
-      (h : CoreFunction) × (slice_get c.functions g ≡ Some h) × AreGiven (word_shapes f) (core_params h) args × TakesResult (word_shapes f) h.result to
+      (h : CoreFunction) × (slice_get c.functions g ≡ Some h) × ArgumentsFit (word_shapes f) (core_params h) args × TakesResult (word_shapes f) h.result to
   CoreStmtFits c f (do_library to l a t site) =
-      IsGiven (word_shapes f) (library_params l) a × TakesResult (word_shapes f) (library_gives l) to × (is_some t ≡ takes_text l)
+      ArgumentFits (word_shapes f) (library_params l) a × TakesResult (word_shapes f) (library_gives l) to × (is_some t ≡ takes_text l)
   CoreStmtFits c f (do_if d a these those) = SimpleFits (word_shapes f) Truth a × CodeFits c f these × CodeFits c f those
   CoreStmtFits c f (do_loop entry again inv d test a body) =
       PartsFit (around c) (room_of f) inv.parts × CodeFits c f test × SimpleFits (word_shapes f) Truth a × CodeFits c f body

@@ -3,7 +3,7 @@
 
 ghost use Rattle.std.specs.Prelude.{◌≡◌};
 ghost use Rattle.core_meaning.specs.Stepped.{choice_law};
-ghost use Rattle.core_meaning.specs.CoreExamples.{counting_million, counting_14, counting_13, counting_visits, adding_18, adding_17, touching_stops, writing_prints, following_faults, getting_returns, getting_visits, pushing_returns, pushing_visits, unfolding_returns, unfolding_visits, starting_visits, making_visits, making_sites, choosing_returns, choosing_visits, dividing_faults, reading_faults, reading_returns, counting_stepped, pushing_stepped, getting_decided, unfolding_decided, starting_decided, making_decided, choosing_decided, dividing_decided};
+ghost use Rattle.core_meaning.specs.CoreExamples.{counting_million, counting_14, counting_13, counting_visits, adding_18, adding_17, touching_stops, writing_prints, following_faults, getting_returns, getting_visits, pushing_returns, pushing_visits, unfolding_returns, unfolding_visits, starting_visits, making_visits, making_sites, choosing_returns, choosing_visits, dividing_faults, reading_faults, reading_returns, counting_agrees, halving_agrees, counting_stepped, pushing_stepped, getting_decided, unfolding_decided, starting_decided, making_decided, choosing_decided, dividing_decided};
 
 /// In a stepped core the decision of each choice is found. It holds of the definitions, so this
 /// function does nothing.
@@ -37,6 +37,8 @@ pub fn worked_cores()
     ensures dividing_faults { dividing_faults }
     ensures reading_faults { reading_faults }
     ensures reading_returns { reading_returns }
+    ensures counting_agrees { counting_agrees }
+    ensures halving_agrees { halving_agrees }
     ensures counting_stepped { counting_stepped }
     ensures pushing_stepped { pushing_stepped }
     ensures getting_decided { getting_decided }

@@ -1,5 +1,7 @@
 use Rattle.std.proofs.Common.{refl}
 use Rattle.std.specs.Fmt.{digits}
+use Rattle.c0_meaning.specs.Runs as runs
+use Rattle.c0_meaning.specs.Running as running
 use Rattle.core_meaning.specs.CoreRuns.{chain, give, end, get, change}
 use Rattle.core_meaning.specs.CoreRunning.{mark, decide, access, allocate}
 use Rattle.core_meaning.proofs.Stepping.{stepped_counting, stepped_pushing, decided_getting, decided_unfolding, decided_starting, decided_making, decided_choosing, decided_dividing}
@@ -120,3 +122,11 @@ returns-clause-choosing_decided c = decided_choosing
 
 pub returns-clause-dividing_decided : goal.returns-clause-dividing_decided
 returns-clause-dividing_decided c = decided_dividing
+
+pub returns-clause-counting_agrees : goal.returns-clause-counting_agrees
+unfolding chain give end get change decide access allocate mark digits runs.chain runs.give runs.end runs.get runs.change running.decide running.access running.allocate
+returns-clause-counting_agrees c = (refl, refl)
+
+pub returns-clause-halving_agrees : goal.returns-clause-halving_agrees
+unfolding chain give end get change decide access allocate mark digits runs.chain runs.give runs.end runs.get runs.change running.decide running.access running.allocate
+returns-clause-halving_agrees c = (refl, refl)
