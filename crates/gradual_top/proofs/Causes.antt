@@ -28,7 +28,8 @@ use Rattle.built_text.specs.Tree.{ProgramTree as SmallTree}
 use Rattle.built_text.specs.Tokens.{built_lexeme, all_built, EndsLast as SmallEndsLast, CutEndsLast}
 use Rattle.built_text.specs.Grammar.{IsProgram}
 use Rattle.built_text.specs.Reads.{FirstFault}
-use Rattle.gradual_top.specs.Source.{most_nodes, small_tokens, HasTree, HasParseFault, IsSound, IsSmall, IsUnbuilt, IsRunnable, IsResolved, lexical, parsing, typing, framing}
+use Rattle.gradual_top.specs.Serving.{IsResolved}
+use Rattle.gradual_top.specs.Source.{most_nodes, small_tokens, HasTree, HasParseFault, IsSound, IsSmall, IsUnbuilt, IsRunnable, lexical, parsing, typing, framing}
 use Rattle.gradual_top.specs.declared.status.Status.TheVariants.{Refused, Limit, NotBuilt}
 use Rattle.gradual_top.specs.Lines.{lexical_line, parse_line, parse_status, type_line, frame_line, limit_line, not_built_line}
 use Rattle.gradual_top.specs.Outcomes.{Outputs, Refuses, TextAnswered}

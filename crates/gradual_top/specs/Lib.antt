@@ -2,5 +2,6 @@
 pub mod Requests
 pub mod Words
 pub mod Source
+pub mod Serving
 pub mod Lines
 pub mod Outcomes

@@ -3,12 +3,10 @@ use Rattle.std.specs.Prelude.{◌≡◌, ℕ, List, [], map, Some, None}
 use Rattle.std.specs.Option.{option_map}
 use Rattle.gc0_base.specs.declared.place.Place.{Place}
 use Rattle.gc0_base.specs.declared.limits.TheConstants.Limits as limits
-use Rattle.c0_lex.specs.declared.token.Token.{Token}
 use Rattle.c0_lex.specs.declared.fault.LexFault.{LexFault}
-use Rattle.c0_lex.specs.Texts.{Lexeme, lexeme_of, HasTokens, HasFault}
+use Rattle.c0_lex.specs.Texts.{Lexeme, HasTokens, HasFault}
 use Rattle.parsed_tree.specs.Tree.{ProgramTree}
 use Rattle.c0_grammar.specs.Lexemes.{read_tokens}
-use Rattle.c0_grammar.specs.Seen.{all_seen}
 use Rattle.c0_grammar.specs.Reads.{Reads}
 use Rattle.c0_parse.specs.declared.fault.ParseFault.{ParseFault}
 use Rattle.c0_parse.specs.declared.fault.ParseFault.TheVariants as parse
@@ -18,7 +16,6 @@ use Rattle.c0_value_rules.specs.declared.violation.TypeFault.{TypeFault}
 use Rattle.c0_value_rules.specs.Violations.{least_of, fault_of}
 use Rattle.c0_rules.specs.Rules.{violations}
 use Rattle.c0_numbers.specs.Resolved.{resolved}
-use Rattle.gc0_tree.specs.Tree.{Program}
 use Rattle.self_framing.specs.declared.fault.FrameFault.{FrameFault}
 use Rattle.self_framing.specs.FrameFaults.{frame_faults, first_fault}
 use Rattle.program_limits.specs.declared.passed.Limit.{Limit}
@@ -152,12 +149,3 @@ OneVerdict = (text : List ℕ) (v w : Verdict) → IsVerdict text v → IsVerdic
 -- and each text has one
 abbrev pub EachVerdict : Type 0
 EachVerdict = (text : List ℕ) → (v : Verdict) × IsVerdict text v
-
--- what is known of a text where its program was resolved: its tokens, its tree, which breaks no rule so far, and the program
-pub record IsResolved (text : List ℕ) (tokens : List Token) (program : Program) : Type 0 where
-  pub tree : ProgramTree
-  pub lexed : HasTokens text (map lexeme_of tokens)
-  pub reads : Reads most_nodes (all_seen tokens) tree
-  pub faultless : tree_faults tree ≡ []
-  pub typed : violations tree ≡ []
-  pub resolves : program ≡ resolved tree

@@ -9,7 +9,7 @@ ghost use Rattle.stack_code.specs.Views.{code_view};
 ghost use Rattle.stack_code.specs.Machine.{run_code};
 ghost use Rattle.stack_runner.specs.Built.{IsBuiltCode};
 ghost use Rattle.gradual_top.specs.Lines.{parse_status, status_of};
-ghost use Rattle.gradual_top.specs.Source.{IsResolved};
+ghost use Rattle.gradual_top.specs.Serving.{IsResolved};
 ghost use Rattle.gradual_top.specs.Outcomes.{Answered, TextAnswered, IsMeant, IsExact, Ends, Says};
 
 use crate::lines::{
