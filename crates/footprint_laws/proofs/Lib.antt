@@ -1,1 +1,2 @@
 pub mod Larger
+pub mod Owned
