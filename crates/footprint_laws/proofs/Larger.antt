@@ -1,10 +1,10 @@
 -- A larger set of owned cells changes no value and no footprint.
-use Rattle.std.proofs.Common.{◌≡◌, ℕ, zero, suc, ◌-◌, Bool, true, false, not, ◌&&◌, List, [], ◌∷◌, ◌++◌, length, Option, Some, None, refl, IsTrue}
+use Rattle.std.proofs.Common.{◌≡◌, ℕ, zero, suc, Bool, true, false, not, ◌&&◌, List, [], ◌∷◌, ◌++◌, Option, Some, None, refl, IsTrue}
 use Rattle.std.specs.Prelude.{slice_get, if◌then◌else◌, is_some}
-use Rattle.gc0_tree.specs.Tree.{Tree, number_at, truth_at, null_at, local_at, result_at, unary_at, binary_at, both_at, either_at, choose_at, read_at, call_at, library_at, alloc_at, Trees, no_trees, tree_and, Conjuncts, no_parts, value_part, acc_part, instance_part, choice_part, Formula, Predicate}
-use Rattle.c0_meaning.specs.Operators.{unary_word, binary_word, pick}
+use Rattle.gc0_tree.specs.Tree.{Tree, number_at, truth_at, null_at, local_at, result_at, unary_at, binary_at, both_at, either_at, choose_at, read_at, call_at, library_at, alloc_at, Trees, no_trees, tree_and, Conjuncts, no_parts, value_part, acc_part, instance_part, choice_part, Predicate}
+use Rattle.c0_meaning.specs.Operators.{pick}
 use Rattle.c0_meaning.specs.Heaps.{Cell, Cells, Heap, owns, cell_value}
-use Rattle.c0_meaning.specs.Holds.{and_then, owned_value, value_in, values_in, Unroll, take_cell, walk, in_body, unroll_at, depth, holds}
+use Rattle.c0_meaning.specs.Holds.{and_then, owned_value, value_in, values_in, Unroll, take_cell, walk, in_body, unroll_at, depth}
 use Rattle.footprint_laws.specs.FootprintLaws.{Within, larger_law}
 
 -- what the first gives, the second gives

@@ -1,11 +1,11 @@
 -- A footprint lies in the owned cells and in the heap, and lists no cell twice.
-use Rattle.std.proofs.Common.{◌≡◌, ℕ, zero, suc, Bool, true, false, not, ◌&&◌, List, [], ◌∷◌, ◌++◌, Option, Some, None, refl, sym, ap, subst, ◌∙◌, IsTrue, eqb}
+use Rattle.std.proofs.Common.{◌≡◌, ℕ, zero, suc, Bool, true, false, not, ◌&&◌, List, [], ◌∷◌, ◌++◌, Option, Some, None, refl, ap, subst, ◌∙◌, IsTrue, eqb}
 use Rattle.std.proofs.lemmas.Bool.{eqb-true, eq-eqb}
 use Rattle.std.specs.Prelude.{slice_get, if◌then◌else◌, is_some, ◌||◌}
-use Rattle.gc0_tree.specs.Tree.{Conjuncts, no_parts, value_part, acc_part, instance_part, choice_part, Formula, Predicate}
+use Rattle.gc0_tree.specs.Tree.{Conjuncts, no_parts, value_part, acc_part, instance_part, choice_part, Predicate}
 use Rattle.c0_meaning.specs.Operators.{pick}
 use Rattle.c0_meaning.specs.Heaps.{Cell, Cells, Heap, same_cell, owns, cell_value}
-use Rattle.c0_meaning.specs.Holds.{and_then, value_in, values_in, Unroll, take_cell, walk, in_body, unroll_at, depth, holds}
+use Rattle.c0_meaning.specs.Holds.{and_then, value_in, values_in, Unroll, take_cell, walk, in_body, unroll_at, depth}
 use Rattle.footprint_laws.specs.FootprintLaws.{Within, InHeap, IsDistinct, footprint_law}
 
 or_false : (b : Bool) → (b || false) ≡ b
@@ -88,10 +88,11 @@ module _ (heap : Heap) (owned : Cells) where
   IsGood foot = Within foot owned × InHeap foot heap × IsDistinct foot
 
   good_end : (foot : Cells) (c : Cell) → IsGood foot → IsTrue (owns owned c) → IsTrue (is_some (cell_value heap c)) → owns foot c ≡ false → IsGood (foot ++ c ∷ [])
-  good_end foot c g o v out =
-      (λ d h. or_both (owns foot d) (same_cell c d) _ (g.0 d) (λ s. subst (λ x. IsTrue (owns owned x)) (same_is c d s) o) (subst IsTrue (owns_end foot c d) h),
-       λ d h. or_both (owns foot d) (same_cell c d) _ (g.1 d) (λ s. subst (λ x. IsTrue (is_some (cell_value heap x))) (same_is c d s) v) (subst IsTrue (owns_end foot c d) h),
-       distinct_end foot c g.2 out)
+  good_end foot c g o v out = (
+    λ d h. or_both (owns foot d) (same_cell c d) _ (g.0 d) (λ s. subst (λ x. IsTrue (owns owned x)) (same_is c d s) o) (subst IsTrue (owns_end foot c d) h),
+    λ d h. or_both (owns foot d) (same_cell c d) _ (g.1 d) (λ s. subst (λ x. IsTrue (is_some (cell_value heap x))) (same_is c d s) v) (subst IsTrue (owns_end foot c d) h),
+    distinct_end foot c g.2 out,
+  )
 
   take_good : (b field : ℕ) (foot mid : Cells) → IsGood foot → take_cell heap owned b field foot ≡ Some mid → IsGood mid
   take_good zero field foot mid g e = absurd (none_some mid e)

@@ -7,11 +7,9 @@ ghost use Rattle.footprint_laws.specs.FootprintLaws.{larger_law, footprint_law};
 /// A footprint in a set of owned cells is the same footprint in each larger set, for every formula.
 pub fn larger_sets()
     ensures { larger_law }
-{
-}
+{}
 
 /// Each cell of a footprint is owned and in the heap, and no cell is in it twice.
 pub fn footprints_are_owned()
     ensures { footprint_law }
-{
-}
+{}
