@@ -1,0 +1,10 @@
+//! Which of two programs is less precise.
+#![tactic(auto)]
+
+ghost use Rattle.precision_order.specs.Precision.{IsOrder};
+
+/// Lost precision is an order of programs. It holds of the definitions, so this function does
+/// nothing.
+pub fn precision_is_an_order()
+    ensures { IsOrder }
+{}
