@@ -1,8 +1,9 @@
--- Lost precision is reflexive and transitive.
-use Rattle.std.proofs.Common.{List, [], ◌∷◌, refl, ◌∙◌}
-use Rattle.gc0_tree.specs.Tree.{Conjuncts, Formula, NoteKind, assert_note, fold_note, unfold_note, Stmt, declare_at, assign_at, write_at, plain_at, block_at, if_at, while_at, for_at, return_at, assert_at, raise_at, note_at, Stmts, no_stmts, stmt_and, Function, Program}
+-- Lost precision is reflexive and transitive, and the first match is the best.
+use Rattle.gc0_base.specs.declared.place.Place.{Place}
+use Rattle.std.proofs.Common.{ℕ, List, [], ◌∷◌, refl, ◌∙◌}
+use Rattle.gc0_tree.specs.Tree.{Tree, Trees, value_part, acc_part, instance_part, choice_part, no_parts, Conjuncts, Formula, NoteKind, assert_note, fold_note, unfold_note, Stmt, declare_at, assign_at, write_at, plain_at, block_at, if_at, while_at, for_at, return_at, assert_at, raise_at, note_at, Stmts, no_stmts, stmt_and, Function, Program}
 use Rattle.precision_order.specs.Bare.{bare_program}
-use Rattle.precision_order.specs.Precision.{Leaves, leaves_none, keep_value, drop_value, keep_acc, drop_acc, keep_instance, drop_instance, keep_choice, drop_choice, LessFormula, same_formula, opened, LessNote, less_asserted, same_folded, same_unfolded, LessStmt, less_declare, less_assign, less_write, less_plain, less_block, less_if, less_while, less_for, less_return, less_assert, less_raise, less_note, LessStmts, less_end, less_and, LessFunction, LessFunctions, no_functions, function_and, LessProgram, IsOrder}
+use Rattle.precision_order.specs.Precision.{Leaves, leaves_none, keep_value, drop_value, keep_acc, drop_acc, keep_instance, drop_instance, keep_choice, drop_choice, LessFormula, same_formula, opened, LessNote, less_asserted, same_folded, same_unfolded, LessStmt, less_declare, less_assign, less_write, less_plain, less_block, less_if, less_while, less_for, less_return, less_assert, less_raise, less_note, LessStmts, less_end, less_and, LessFunction, LessFunctions, no_functions, function_and, LessProgram, IsOrder, FirstIsBest}
 
 leaves_over : {a b c : Conjuncts} → Leaves a b → Leaves b c → Leaves a c
 leaves_over leaves_none k = k
@@ -123,3 +124,29 @@ precision_order = record {
   reflexive = λ p. program_same (bare_program p);
   transitive = λ p q r. program_over (bare_program p) (bare_program q) (bare_program r);
 }
+
+leaves_same : (cs : Conjuncts) → Leaves cs cs
+leaves_same no_parts = leaves_none
+leaves_same (value_part e cs) = keep_value e (leaves_same cs)
+leaves_same (acc_part base f cs) = keep_acc base f (leaves_same cs)
+leaves_same (instance_part at q es cs) = keep_instance at q es (leaves_same cs)
+leaves_same (choice_part at c us bs cs) = keep_choice at c (leaves_same us) (leaves_same bs) (leaves_same cs)
+
+value_rest : (e d : Tree) (cs ds : Conjuncts) → Leaves (value_part e cs) (value_part d ds) → Leaves cs ds
+value_rest e d cs ds (keep_value x h) = h
+value_rest e d cs ds (drop_value x h) = leaves_over h (drop_value d (leaves_same ds))
+
+acc_rest : (a b : Tree) (f g : ℕ) (cs ds : Conjuncts) → Leaves (acc_part a f cs) (acc_part b g ds) → Leaves cs ds
+acc_rest a b f g cs ds (keep_acc x n h) = h
+acc_rest a b f g cs ds (drop_acc x n h) = leaves_over h (drop_acc b g (leaves_same ds))
+
+instance_rest : (at to : Place) (p q : ℕ) (es ts : Trees) (cs ds : Conjuncts) → Leaves (instance_part at p es cs) (instance_part to q ts ds) → Leaves cs ds
+instance_rest at to p q es ts cs ds (keep_instance x n us h) = h
+instance_rest at to p q es ts cs ds (drop_instance x n us h) = leaves_over h (drop_instance to q ts (leaves_same ds))
+
+choice_rest : (at to : Place) (c d : Tree) (us bs xs ys cs ds : Conjuncts) → Leaves (choice_part at c us bs cs) (choice_part to d xs ys ds) → Leaves cs ds
+choice_rest at to c d us bs xs ys cs ds (keep_choice x e u v h) = h
+choice_rest at to c d us bs xs ys cs ds (drop_choice x e zs ws h) = leaves_over h (drop_choice to d xs ys (leaves_same ds))
+
+pub first_best : FirstIsBest
+first_best = record { value = value_rest; acc = acc_rest; instance = instance_rest; choice = choice_rest }

@@ -84,3 +84,11 @@ LessPrecise more less = LessProgram (bare_program more) (bare_program less)
 pub record IsOrder : Type 0 where
   pub reflexive : (p : Program) → LessPrecise p p
   pub transitive : (p q r : Program) → LessPrecise p q → LessPrecise q r → LessPrecise p r
+
+-- Where the first of these conjuncts can stand for the first of those, no later one stands better for it: the others can
+-- always be left down to those others. So taking the first that can stand decides what is left out, from left to right.
+pub record FirstIsBest : Type 0 where
+  pub value : (e d : Tree) (cs ds : Conjuncts) → Leaves (value_part e cs) (value_part d ds) → Leaves cs ds
+  pub acc : (a b : Tree) (f g : ℕ) (cs ds : Conjuncts) → Leaves (acc_part a f cs) (acc_part b g ds) → Leaves cs ds
+  pub instance : (at to : Place) (p q : ℕ) (es ts : Trees) (cs ds : Conjuncts) → Leaves (instance_part at p es cs) (instance_part to q ts ds) → Leaves cs ds
+  pub choice : (at to : Place) (c d : Tree) (us bs xs ys cs ds : Conjuncts) → Leaves (choice_part at c us bs cs) (choice_part to d xs ys ds) → Leaves cs ds

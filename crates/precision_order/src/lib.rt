@@ -1,10 +1,16 @@
 //! Which of two programs is less precise.
 #![tactic(auto)]
 
-ghost use Rattle.precision_order.specs.Precision.{IsOrder};
+ghost use Rattle.precision_order.specs.Precision.{IsOrder, FirstIsBest};
 
 /// Lost precision is an order of programs. It holds of the definitions, so this function does
 /// nothing.
 pub fn precision_is_an_order()
     ensures { IsOrder }
+{}
+
+/// What was left out of conjuncts is found from left to right, without going back. It holds of the
+/// definitions, so this function does nothing.
+pub fn first_match_is_best()
+    ensures { FirstIsBest }
 {}
