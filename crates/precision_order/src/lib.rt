@@ -1,7 +1,11 @@
 //! Which of two programs is less precise.
 #![tactic(auto)]
 
+mod same;
+
 ghost use Rattle.precision_order.specs.Precision.{IsOrder, FirstIsBest};
+
+pub use same::same_expr;
 
 /// Lost precision is an order of programs. It holds of the definitions, so this function does
 /// nothing.
