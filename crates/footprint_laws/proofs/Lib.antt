@@ -1,2 +1,3 @@
 pub mod Larger
 pub mod Owned
+pub mod Unrolled

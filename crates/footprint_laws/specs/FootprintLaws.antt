@@ -1,8 +1,9 @@
 -- Laws of footprints.
-use Rattle.std.specs.Prelude.{◌≡◌, ℕ, false, List, [], ◌∷◌, Some, IsTrue, is_some}
+use Rattle.std.specs.Prelude.{◌≡◌, ℕ, false, List, [], ◌∷◌, Some, IsTrue, is_some, slice_get}
 use Rattle.gc0_tree.specs.Tree.{Formula, Predicate}
 use Rattle.c0_meaning.specs.Heaps.{Cell, Cells, Heap, owns, cell_value}
-use Rattle.c0_meaning.specs.Holds.{holds}
+use Rattle.c0_meaning.specs.Holds.{holds, depth, unroll_at, in_body, walk}
+use Rattle.c0_meaning.specs.Framing.{predicates_unguarded}
 
 -- each cell of the first is in the second
 abbrev pub Within : Cells → Cells → Type 0
@@ -26,3 +27,8 @@ IsDistinct (c ∷ cs) = (owns cs c ≡ false) × IsDistinct cs
 abbrev pub footprint_law : Type 0
 footprint_law = (ps : List Predicate) (formula : Formula) (words : List ℕ) (heap : Heap) (owned foot : Cells) →
     holds ps formula words heap owned ≡ Some foot → Within foot owned × InHeap foot heap × IsDistinct foot
+
+-- In a guarded program an instance does what its body does.
+abbrev pub unroll_law : Type 0
+unroll_law = (ps : List Predicate) (heap : Heap) (owned : Cells) (p : ℕ) (args : List ℕ) (foot : Cells) → predicates_unguarded 0 ps ≡ [] →
+    unroll_at (depth ps heap) ps heap owned p args foot ≡ in_body (slice_get ps p) (λ body. walk (unroll_at (depth ps heap) ps heap owned) heap owned args body foot)

@@ -2,7 +2,7 @@
 //! functions do nothing.
 #![tactic(auto)]
 
-ghost use Rattle.footprint_laws.specs.FootprintLaws.{larger_law, footprint_law};
+ghost use Rattle.footprint_laws.specs.FootprintLaws.{larger_law, footprint_law, unroll_law};
 
 /// A footprint in a set of owned cells is the same footprint in each larger set, for every formula.
 pub fn larger_sets()
@@ -12,4 +12,9 @@ pub fn larger_sets()
 /// Each cell of a footprint is owned and in the heap, and no cell is in it twice.
 pub fn footprints_are_owned()
     ensures { footprint_law }
+{}
+
+/// In a guarded program an instance of a predicate is its body.
+pub fn instance_is_body()
+    ensures { unroll_law }
 {}
