@@ -8,14 +8,15 @@ use Rattle.c0_grammar.specs.Tokens.{Token}
 use Rattle.c0_grammar.specs.Plan.{Fault, syntax_at, deep_at, start}
 use Rattle.c0_grammar.specs.Reads.{Reads, EndsLast, Answers}
 use Rattle.c0_grammar.specs.Laws.{RunIsExact, RunIsComplete}
-use Rattle.c0_parse.specs.declared.fault.ParseFault.{ParseFault}
+use Rattle.parse_faults.specs.declared.fault.ParseFault.{ParseFault}
 use Rattle.c0_cursor.specs.declared.fault.Stop.{Stop}
 use Rattle.c0_cursor.specs.declared.fault.Stop.TheVariants as stop
 use Rattle.c0_cursor.specs.Seen.{reading, Parsed as Answer}
 use Rattle.c0_grammar.specs.Seen.{all_seen}
-use Rattle.c0_parse.specs.TreeFaults.{TreeFault, contract_on_prototype, deep_read, tree_faults}
+use Rattle.parse_faults.specs.TreeFaults.{TreeFault, contract_on_prototype, deep_read, tree_faults}
 use Rattle.c0_parse.specs.Causes.{HasCause}
-use Rattle.c0_parse.specs.Answers.{AnswersTree, first_of, unless_fault, answer_of}
+use Rattle.parse_faults.specs.First.{first_of}
+use Rattle.c0_parse.specs.Answers.{AnswersTree, unless_fault, answer_of}
 use Rattle.gc0_base.specs.declared.limits.TheConstants.Limits as limits
 
 -- what a reading of a whole text answered

@@ -2,6 +2,5 @@
 mod Parts
 mod ItemSteps
 mod Lines
-mod Firsts
 mod Uses
 mod Answering

@@ -1,14 +1,14 @@
--- What the parser answers, and which fault of a tree is the first.
-use Rattle.std.specs.Prelude.{◌≡◌, List, [], ◌∷◌, Option, Some, None, Result, Ok, Err}
-use Rattle.std.specs.Option.{option_or}
+-- What the parser answers.
+use Rattle.std.specs.Prelude.{◌≡◌, [], Option, Some, None, Result, Ok, Err}
 use Rattle.parsed_tree.specs.declared.items.Parsed.{Parsed}
 use Rattle.parsed_tree.specs.Tree.{ProgramTree}
 use Rattle.parsed_tree.specs.Views.{program_view}
-use Rattle.c0_parse.specs.declared.fault.ParseFault.{ParseFault}
-use Rattle.c0_parse.specs.declared.fault.ParseFault.TheVariants as fault
+use Rattle.parse_faults.specs.declared.fault.ParseFault.{ParseFault}
+use Rattle.parse_faults.specs.declared.fault.ParseFault.TheVariants as fault
 use Rattle.c0_cursor.specs.declared.fault.Stop.{Stop}
 use Rattle.c0_cursor.specs.declared.fault.Stop.TheVariants as stop
-use Rattle.c0_parse.specs.TreeFaults.{TreeFault, contract_on_prototype, deep_read, tree_faults}
+use Rattle.parse_faults.specs.TreeFaults.{contract_on_prototype, deep_read, tree_faults}
+use Rattle.parse_faults.specs.First.{first_of}
 use Rattle.c0_parse.specs.Causes.{ComesFirst}
 
 -- a program that is not too deep is answered with its tree, or with the first fault of the tree
@@ -18,20 +18,6 @@ AnswersTree p (Err (fault.ContractOnPrototype at)) = ComesFirst (contract_on_pro
 AnswersTree p (Err (fault.DeepRead at)) = ComesFirst (deep_read at) (tree_faults p)
 AnswersTree p (Err fault.Memory) = Unit {0}
 AnswersTree p (Err f) = ⊥
-
--- a fault of a tree, as the parser answers it
-abbrev pub fault_of : TreeFault → ParseFault
-fault_of (contract_on_prototype at) = fault.ContractOnPrototype at
-fault_of (deep_read at) = fault.DeepRead at
-
--- the first fault of a tree
-abbrev pub first_of : List TreeFault → Option ParseFault
-first_of [] = None
-first_of (f ∷ fs) = Some (fault_of f)
-
--- the one that was found, or else this one
-abbrev pub earlier : Option ParseFault → TreeFault → Option ParseFault
-earlier found f = option_or found (Some (fault_of f))
 
 -- a tree without a fault, or its fault
 abbrev pub unless_fault : Parsed → Option ParseFault → Result Parsed ParseFault

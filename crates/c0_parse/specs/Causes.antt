@@ -4,9 +4,9 @@ use Rattle.parsed_tree.specs.Tree.{ProgramTree}
 use Rattle.c0_grammar.specs.Tokens.{Token}
 use Rattle.c0_grammar.specs.Faults.{syntax_at, deep_at}
 use Rattle.c0_grammar.specs.Reads.{Reads, HasFault}
-use Rattle.c0_parse.specs.declared.fault.ParseFault.{ParseFault}
-use Rattle.c0_parse.specs.declared.fault.ParseFault.TheVariants as fault
-use Rattle.c0_parse.specs.TreeFaults.{TreeFault, contract_on_prototype, deep_read, tree_faults}
+use Rattle.parse_faults.specs.declared.fault.ParseFault.{ParseFault}
+use Rattle.parse_faults.specs.declared.fault.ParseFault.TheVariants as fault
+use Rattle.parse_faults.specs.TreeFaults.{TreeFault, contract_on_prototype, deep_read, tree_faults}
 use Rattle.gc0_base.specs.declared.limits.TheConstants.Limits as limits
 
 -- this fault of the tree comes first

@@ -1,7 +1,6 @@
 -- The definitions that the contracts cite.
 pub mod Seen
 pub mod Read
-pub mod TreeFaults
 pub mod Causes
 pub mod Answers
 pub mod Heads

@@ -4,8 +4,6 @@
 //! leaves to do is what its plan leaves to do. What the plans take is said by `c0_grammar`.
 #![tactic(auto)]
 
-mod fault;
-mod faults;
 mod items;
 mod loops;
 mod macros;
@@ -13,5 +11,5 @@ mod made;
 mod reader;
 mod statements;
 
-pub use fault::ParseFault;
+pub use parse_faults::ParseFault;
 pub use reader::parse;

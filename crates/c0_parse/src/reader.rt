@@ -10,18 +10,17 @@ ghost use Rattle.c0_grammar.specs.Plan.{Plan, await, many, use_loop, use_plan, s
 ghost use Rattle.c0_grammar.specs.Reads.{EndsLast, Reads};
 ghost use Rattle.c0_cursor.specs.Seen.{reading, Parsed as Answer};
 ghost use Rattle.c0_grammar.specs.Seen.{all_seen};
-ghost use Rattle.c0_parse.specs.TreeFaults.{tree_faults};
+ghost use Rattle.parse_faults.specs.TreeFaults.{tree_faults};
 ghost use Rattle.c0_parse.specs.Causes.{HasCause};
 ghost use Rattle.c0_parse.specs.Answers.{AnswersTree, answer_of};
 
-use crate::fault::ParseFault;
-use crate::faults::first_fault;
 use crate::items::items_of;
 use crate::part;
 use c0_cursor::{Mark, Stop, begins, expect, library, remaining};
 use c0_grammar::{run_is_complete, run_is_exact};
 use c0_lex::{Symbol, Token};
 use gc0_base::Limits;
+use parse_faults::{ParseFault, first_fault};
 use parsed_tree::{Library, Parsed};
 use sqlite_items::Items;
 use std::alloc::Global;

@@ -11,9 +11,9 @@ use Rattle.parsed_tree.specs.Tree.{ProgramTree}
 use Rattle.c0_grammar.specs.Seen.{all_seen}
 use Rattle.c0_grammar.specs.Lexemes.{seen_read, read_ends_last}
 use Rattle.c0_grammar.specs.Reads.{Reads, EndsLast}
-use Rattle.c0_parse.specs.declared.fault.ParseFault.{ParseFault}
-use Rattle.c0_parse.specs.declared.fault.ParseFault.TheVariants as parse
-use Rattle.c0_parse.specs.TreeFaults.{tree_faults}
+use Rattle.parse_faults.specs.declared.fault.ParseFault.{ParseFault}
+use Rattle.parse_faults.specs.declared.fault.ParseFault.TheVariants as parse
+use Rattle.parse_faults.specs.TreeFaults.{tree_faults}
 use Rattle.c0_parse.specs.Causes.{HasCause}
 use Rattle.c0_value_rules.specs.declared.violation.TypeFault.{TypeFault}
 use Rattle.c0_value_rules.specs.declared.violation.TypeFault.TheVariants as typed

@@ -10,8 +10,8 @@ use Rattle.c0_grammar.specs.Plan.{Fault, syntax_at, deep_at, run, start as begin
 use Rattle.c0_grammar.specs.Lexemes.{read_tokens, read_ends_last}
 use Rattle.c0_grammar.specs.Reads.{Reads, Answers}
 use Rattle.c0_grammar.specs.Laws.{RunIsExact}
-use Rattle.c0_parse.specs.declared.fault.ParseFault.TheVariants as parse
-use Rattle.c0_parse.specs.TreeFaults.{TreeFault, contract_on_prototype, deep_read, tree_faults}
+use Rattle.parse_faults.specs.declared.fault.ParseFault.TheVariants as parse
+use Rattle.parse_faults.specs.TreeFaults.{TreeFault, contract_on_prototype, deep_read, tree_faults}
 use Rattle.c0_value_rules.specs.declared.violation.Violation.{Violation}
 use Rattle.c0_value_rules.specs.Violations.{comes_before, least_of, fault_of}
 use Rattle.c0_value_rules.specs.Violations as violation

@@ -8,9 +8,9 @@ use Rattle.parsed_tree.specs.Tree.{ProgramTree}
 use Rattle.c0_grammar.specs.Tokens.{Token}
 use Rattle.c0_grammar.specs.Lexemes.{read_tokens}
 use Rattle.c0_grammar.specs.Reads.{Reads, OneTree}
-use Rattle.c0_parse.specs.declared.fault.ParseFault.{ParseFault}
-use Rattle.c0_parse.specs.declared.fault.ParseFault.TheVariants as parse
-use Rattle.c0_parse.specs.TreeFaults.{TreeFault, contract_on_prototype, deep_read, tree_faults}
+use Rattle.parse_faults.specs.declared.fault.ParseFault.{ParseFault}
+use Rattle.parse_faults.specs.declared.fault.ParseFault.TheVariants as parse
+use Rattle.parse_faults.specs.TreeFaults.{TreeFault, contract_on_prototype, deep_read, tree_faults}
 use Rattle.c0_parse.specs.Causes.{ComesFirst, TreeHas, HasCause}
 use Rattle.c0_value_rules.specs.declared.violation.TypeFault.{TypeFault}
 use Rattle.c0_value_rules.specs.Violations.{least_of, fault_of}

@@ -14,8 +14,8 @@ use Rattle.gc0_tree.specs.Tree.{Function, Program}
 use Rattle.gc0_tree.specs.Sites.{token_place}
 use Rattle.c0_lex.specs.declared.fault.LexFault.{LexFault}
 use Rattle.c0_lex.specs.declared.fault.LexFault.TheVariants as lex
-use Rattle.c0_parse.specs.declared.fault.ParseFault.{ParseFault}
-use Rattle.c0_parse.specs.declared.fault.ParseFault.TheVariants as parse
+use Rattle.parse_faults.specs.declared.fault.ParseFault.{ParseFault}
+use Rattle.parse_faults.specs.declared.fault.ParseFault.TheVariants as parse
 use Rattle.c0_value_rules.specs.declared.violation.TypeFault.{TypeFault}
 use Rattle.c0_value_rules.specs.declared.violation.TypeFault.TheVariants as fault
 use Rattle.self_framing.specs.declared.fault.FrameFault.{FrameFault}

@@ -5,7 +5,7 @@ use Rattle.c0_lex.specs.Texts.{lexeme_of, HasTokens}
 use Rattle.parsed_tree.specs.Tree.{ProgramTree}
 use Rattle.c0_grammar.specs.Reads.{Reads}
 use Rattle.c0_grammar.specs.Seen.{all_seen}
-use Rattle.c0_parse.specs.TreeFaults.{tree_faults}
+use Rattle.parse_faults.specs.TreeFaults.{tree_faults}
 use Rattle.c0_rules.specs.Rules.{violations}
 use Rattle.c0_numbers.specs.Resolved.{resolved}
 use Rattle.gc0_tree.specs.Tree.{Program}

@@ -3,7 +3,7 @@ use Rattle.std.proofs.Common.{◌≡◌, [], IfOk, IfErr, sym, subst}
 use Rattle.parsed_tree.specs.Views.{program_view}
 use Rattle.c0_grammar.specs.Reads.{Reads}
 use Rattle.c0_grammar.specs.Seen.{all_seen}
-use Rattle.c0_parse.specs.TreeFaults.{tree_faults}
+use Rattle.parse_faults.specs.TreeFaults.{tree_faults}
 use Rattle.c0_parse.specs.Causes.{HasCause}
 use Rattle.c0_parse.specs.Answers.{AnswersTree}
 use Rattle.c0_parse.proofs.Answering.{tree, faultless, cause, complete}

@@ -2,7 +2,7 @@
 use Rattle.std.proofs.Common.{refl, inl, inr}
 use Rattle.std.specs.Prelude.{◌≢◌}
 use Rattle.c0_lex.specs.declared.fault.LexFault.TheVariants as lex
-use Rattle.c0_parse.specs.declared.fault.ParseFault.TheVariants as parse
+use Rattle.parse_faults.specs.declared.fault.ParseFault.TheVariants as parse
 use Rattle.c0_value_rules.specs.declared.violation.TypeFault.TheVariants as typed
 use Rattle.parsed_tree.specs.Views.{program_view}
 use Rattle.gradual_top.specs.Outcomes.{TextAnswered}

@@ -1,9 +1,0 @@
--- What holds at each turn of `in_all_invariants`, and what gets less.
-use Rattle.std.proofs.Common.{◌≡◌, drop, fold, map}
-use Rattle.parsed_tree.specs.Views.{invariants_view}
-use Rattle.c0_parse.specs.TreeFaults.{all_of, invariants_faults}
-use Rattle.c0_parse.specs.Answers.{earlier}
-use Rattle.c0_parse.proofs.faults.in_all_invariants.Given as goal
-
-abbrev pub invariant-loop-part : goal.invariant-loop-part
-invariant-loop-part l = fold earlier l.found (all_of invariants_faults (map invariants_view (drop l.part-index l.all))) ≡ fold earlier l.fn.found (all_of invariants_faults (map invariants_view l.all))

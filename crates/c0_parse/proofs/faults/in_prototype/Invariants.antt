@@ -1,9 +1,0 @@
--- What holds at each turn of `in_prototype`, and what gets less.
-use Rattle.std.proofs.Common.{◌≡◌, drop, fold, map}
-use Rattle.parsed_tree.specs.Views.{clause_view}
-use Rattle.c0_parse.specs.TreeFaults.{all_of, prototype_clause}
-use Rattle.c0_parse.specs.Answers.{earlier}
-use Rattle.c0_parse.proofs.faults.in_prototype.Given as goal
-
-abbrev pub invariant-loop-part : goal.invariant-loop-part
-invariant-loop-part l = fold earlier l.found (all_of prototype_clause (map clause_view (drop l.part-index l.part-items))) ≡ fold earlier l.fn.found (all_of prototype_clause (map clause_view l.contract.clauses))

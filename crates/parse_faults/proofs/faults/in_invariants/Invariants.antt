@@ -1,0 +1,9 @@
+-- What holds at each turn of `in_invariants`, and what gets less.
+use Rattle.std.proofs.Common.{◌≡◌, drop, fold, map}
+use Rattle.parsed_tree.specs.Views.{invariant_view}
+use Rattle.parse_faults.specs.TreeFaults.{all_of, invariant_faults}
+use Rattle.parse_faults.specs.First.{earlier}
+use Rattle.parse_faults.proofs.faults.in_invariants.Given as goal
+
+abbrev pub invariant-loop-part : goal.invariant-loop-part
+invariant-loop-part l = fold earlier l.found (all_of invariant_faults (map invariant_view (drop l.part-index l.part-items))) ≡ fold earlier l.fn.found (all_of invariant_faults (map invariant_view l.invariants.clauses))
