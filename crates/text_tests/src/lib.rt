@@ -1,5 +1,5 @@
-//! The tests of the floors of the text, of public calls alone: its tokens, its tree, whether it can be run, and how
-//! trees are printed. They stand apart, so that the crates that they try aren't proved a second time for them.
+//! The tests of the floors of the text, of public calls alone: its tokens, its tree, and whether it can be run. They
+//! stand apart, so that the crates that they try aren't proved a second time for them.
 #![tactic(auto)]
 
 #[cfg(test)]
@@ -8,5 +8,3 @@ mod built;
 mod lexical;
 #[cfg(test)]
 mod parsing;
-#[cfg(test)]
-mod printing;
