@@ -1,8 +1,0 @@
-use Rattle.core_lower.proofs.Calls.{means, decides}
-use Rattle.core_lower.proofs.lowering_means.Goals as goal
-
-pub returns-clause-meaning : goal.returns-clause-meaning
-returns-clause-meaning c = means
-
-pub returns-clause-sites : goal.returns-clause-sites
-returns-clause-sites c = decides

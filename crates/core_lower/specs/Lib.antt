@@ -1,9 +1,0 @@
--- The definitions that the contracts cite.
-pub mod Counts
-pub mod Trees
-pub mod Statements
-pub mod Lowering
-pub mod Tables
-pub mod Ends
-pub mod Laws
-pub mod Examples

@@ -1,0 +1,4 @@
+-- The lemmas.
+pub mod Ordinals
+pub mod Seen
+pub mod Steps
