@@ -1,0 +1,4 @@
+-- The definitions that the contracts cite.
+pub mod Used
+pub mod Most
+pub mod Counting
