@@ -1,14 +1,21 @@
 -- Counts one after another.
-use Rattle.std.proofs.Common.{◌≡◌, ℕ, ◌≤◌, refl, sym, ap, subst, ◌∙◌, arith, Bool, true, false, suc}
+use Rattle.std.proofs.Common.{◌≡◌, ℕ, ◌≤◌, refl, sym, ap, subst, ◌∙◌, arith, Bool, true, false, suc, eqb-true}
 use Rattle.std.specs.Prelude.{max, if◌then◌else◌}
 use Rattle.gc0_tree.specs.declared.Shape.{Shape}
+use Rattle.gc0_tree.specs.declared.Shape.TheVariants.{Int, Bool as Truth, Pointer, Null}
 use Rattle.lowering_laws.specs.Counts.{Counts, same_shape, one_more, with_temp, decided}
 use Rattle.lowering_laws.specs.Statements.{larger}
-use Rattle.lowering_laws.proofs.Counting.{same_is}
 use Rattle.temp_counts.specs.Used.{used_in}
 use Rattle.temp_counts.specs.Most.{most_in, raised}
 use Rattle.temp_counts.specs.declared.tally.Tally.{Tally}
 use Rattle.temp_counts.specs.Counting.{IsWithin, Counting, Using}
+
+same_is : (s u : Shape) → same_shape s u ≡ true → s ≡ u
+same_is Int Int h = refl
+same_is Truth Truth h = refl
+same_is Null Null h = refl
+same_is (Pointer j) (Pointer k) h = ap Pointer (eqb-true j k h)
+same_is s u h = absurd (let f : false ≡ true = h in cc)
 
 -- nothing is counted
 pub still : (t : Tally) → Counting t t (λ c. c)
