@@ -1,0 +1,4 @@
+-- The definitions that the contracts cite.
+pub mod Branches
+pub mod Passing
+pub mod Writing
