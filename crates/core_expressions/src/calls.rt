@@ -13,7 +13,7 @@ ghost use Rattle.core_expressions.specs.Writing.{IsWithin, program_of, places_of
 
 use crate::operand::Operand;
 use crate::parts::{push_set, push_step, zero};
-use crate::shapes::{library_shape, or_int, reads_input, result_shape};
+use crate::shapes::reads_input;
 use crate::within::Within;
 use crate::written::Written;
 use core_tables::PlacedSite;
@@ -22,6 +22,7 @@ use gc0_base::{Kind, Place, Site};
 use gc0_tree::{LibraryCall, Shape};
 use sqlite_items::Items;
 use std::alloc::AllocError;
+use temp_counts::{library_gives, or_int, result_of};
 
 // The local of a value that isn't constant.
 fn local_in(value: Simple) -> u32
@@ -114,7 +115,7 @@ fn begin_call(
     ensures written { (c : Counts) → StandsFor out.old c → OnOk result (IsWritten out.old out.new (with_result (result_of (slice_get (program_of within.now).functions function)) (decided (call_choices (slice_get (program_of within.now).functions function)) c)) no_code (call_decisions (places_of within.now kind.Requires place) (slice_get (program_of within.now).functions function)) (placed_about (places_of within.now kind.Requires place) function place)) }
 {
     let site = within.site(Kind::Requires, place);
-    let to = take_result(within, out, result_shape(within, function))?;
+    let to = take_result(within, out, result_of(within.program, function))?;
     decide_call(within, out, site, function)?;
     out.place(PlacedSite {
         site,
@@ -159,7 +160,7 @@ pub(crate) fn finish_call(
     push_call(out, to, function, arguments, site)?;
     Ok(Operand {
         value: held(to),
-        shape: or_int(result_shape(within, function)),
+        shape: or_int(result_of(within.program, function)),
     })
 }
 
@@ -217,11 +218,11 @@ pub(crate) fn finish_library(
     requires { IsWithin within.now }
     ensures { (c : Counts) → StandsFor out.old c → IfOk result (λ x. IsOperand out.old out.new x (held (temp_if (target_of within.now) (library_gives call) c)) (or_int (library_gives call)) (with_result (library_gives call) c) (code_and do_step (one (do_library (temp_if (target_of within.now) (library_gives call) c) call value text (site_if (reads_input call) (places_of within.now kind.Trap place))))) [] (placed_if (reads_input call) (places_of within.now kind.Trap place) place)) }
 {
-    let to = take_result(within, out, library_shape(call))?;
+    let to = take_result(within, out, library_gives(call))?;
     let site = place_library(out, call, within.site(Kind::Trap, place), place)?;
     push_library(out, to, call, value, text, site)?;
     Ok(Operand {
         value: held(to),
-        shape: or_int(library_shape(call)),
+        shape: or_int(library_gives(call)),
     })
 }

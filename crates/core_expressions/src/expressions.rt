@@ -10,7 +10,7 @@ ghost use Rattle.core_tree.specs.declared.Simple.TheVariants as simple;
 ghost use Rattle.gc0_tree.specs.Tree.{unary_at, binary_at, both_at, either_at, choose_at, read_at, alloc_at};
 ghost use Rattle.gc0_tree.specs.Views.{expr_view, exprs_view, trees_in};
 ghost use Rattle.core_tree.specs.CoreTree.{no_code};
-ghost use Rattle.lowering_laws.specs.Counts.{Counts, tree_shape, counted, first_counted, with_temp, decided, is_constant};
+ghost use Rattle.lowering_laws.specs.Counts.{Counts, tree_shape, counted, first_counted, with_temp, decided};
 ghost use Rattle.lowering_laws.specs.Trees.{value_of, tree_code, first_value, first_code, join, temp, operator_code};
 ghost use Rattle.lowering_laws.specs.Tables.{branch, tree_decisions, tree_placed, first_decisions, first_placed, op_placed};
 ghost use Rattle.core_expressions.specs.Writing.{IsWithin, program_of, places_of, room_in, target_of, StandsFor, IsWritten, IsOperand, counts_behind, shape_in, value_in, code_in, decisions_for, placed_for, temp_in};
@@ -22,7 +22,7 @@ use crate::calls::{finish_argument, finish_call, finish_library};
 use crate::operand::Operand;
 use crate::operators::lower_operator;
 use crate::parts::{push_load, push_new, push_unary, zero};
-use crate::shapes::{chosen_shape, gives, local_shape, read_shape, truth, unary_shape};
+use crate::shapes::{chosen_shape, local_shape, truth};
 use crate::within::Within;
 use crate::written::Written;
 use core_tree::Simple;
@@ -30,6 +30,7 @@ use gc0_base::{Decision, Place, Word};
 use gc0_tree::{Expr, ExprForm, ExprOp, Shape, UnaryOp};
 use sqlite_items::{Boxed, Items};
 use std::alloc::AllocError;
+use temp_counts::{gives, is_constant, read_shape, unary_shape};
 
 /// Writes the code of an expression, and gives where its value is behind it.
 ///
@@ -184,7 +185,7 @@ fn lower_read(
     ensures written { (c : Counts) → StandsFor out.old c → OnOk result (IsWritten out.old out.new (counted (program_of within.now) (room_in within.now) c (read_at place (expr_view base.now) of_struct field)) (tree_code (program_of within.now) (room_in within.now) (target_of within.now) c (read_at place (expr_view base.now) of_struct field)) (tree_decisions (program_of within.now) (places_of within.now) (read_at place (expr_view base.now) of_struct field)) (tree_placed (places_of within.now) (read_at place (expr_view base.now) of_struct field))) }
 {
     let operand = lower_expr(within, out, base)?;
-    let shape = read_shape(within, of_struct, field);
+    let shape = read_shape(within.program, of_struct, field);
     let to = out.take(within, shape)?;
     push_load(within, out, to, operand.value, of_struct, field, place)?;
     Ok(Operand {
@@ -309,17 +310,5 @@ fn lower_first(
             let x = lower_expr(within, out, e.get())?;
             Ok(Some(x.value))
         }
-    }
-}
-
-fn is_constant(e: &Expr) -> bool
-    ensures { result ≡ is_constant (expr_view e.now) }
-{
-    match &e.form {
-        ExprForm::Number(_) => true,
-        ExprForm::Truth(_) => true,
-        ExprForm::Null => true,
-        ExprForm::ResultValue => true,
-        _ => false,
     }
 }

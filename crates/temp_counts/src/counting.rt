@@ -36,7 +36,8 @@ fn hold_constant(tally: &mut Tally, constant: bool, shape: Shape) -> Result<(), 
     Ok(())
 }
 
-fn is_constant(e: &Expr) -> bool
+/// Whether no local and no temporary holds the value of an expression.
+pub fn is_constant(e: &Expr) -> bool
     ensures { result ≡ is_constant (expr_view e.now) }
 {
     match &e.form {

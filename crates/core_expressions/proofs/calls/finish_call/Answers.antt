@@ -20,6 +20,6 @@ returns c = λ k s.
     let code : Option ℕ → Site → Code = λ n x. code_and do_step (one (do_call n g c.args.arguments x)) in
     record {
       value = c.held.ensures ∙ ap (λ (n : Option ℕ). held n) to;
-      shape = c.or_int.ensures ∙ ap (λ (r : Option Shape). or_int r) c.result_shape.ensures;
+      shape = c.or_int.ensures ∙ ap (λ (r : Option Shape). or_int r) c.result_of.ensures;
       written = alike (after_prepared v p) (ap (λ (x : Site). code c.in_ok-to.to x) c.site-site.ensures ∙ ap (λ (n : Option ℕ). code n (places_of c.args.within.now kind.Requires c.args.place)) to) refl refl;
     }

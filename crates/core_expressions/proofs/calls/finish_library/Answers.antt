@@ -15,20 +15,20 @@ use Rattle.core_expressions.proofs.calls.finish_library.Goals as goal
 pub returns : goal.returns
 returns c = λ k s.
     let l = c.args.call in
-    let k1 = with_result c.library_shape.result k in
+    let k1 = with_result c.library_gives.result k in
     let v = c.in_ok-to.ensures.written k s in
     let u = c.in_ok-site.ensures.written k1 v.counts in
     let p = c.in_ok-push_library.ensures k1 u.counts in
     let at = places_of c.args.within.now kind.Trap c.args.place in
     let code : Option ℕ → Option Site → Code = λ n x. code_and do_step (one (do_library n l c.args.value c.args.text x)) in
-    let to = c.in_ok-to.ensures.number k s ∙ ap (λ (g : Option Shape). temp_if (target_of c.args.within.now) g k) c.library_shape.ensures in
+    let to = c.in_ok-to.ensures.number k s ∙ ap (λ (g : Option Shape). temp_if (target_of c.args.within.now) g k) c.library_gives.ensures in
     let site = c.in_ok-site.ensures.site ∙ ap (λ (x : Site). site_if (reads_input l) x) c.site.ensures in
     record {
       value = c.held.ensures ∙ ap (λ (n : Option ℕ). held n) to;
-      shape = c.or_int.ensures ∙ ap (λ (r : Option Shape). or_int r) c.library_shape-2.ensures;
+      shape = c.or_int.ensures ∙ ap (λ (r : Option Shape). or_int r) c.library_gives-2.ensures;
       written = counted_alike (alike (followed v (after_prepared u p))
           (ap (λ (n : Option ℕ). code n c.in_ok-site.site) to ∙ ap (λ (x : Option Site). code (temp_if (target_of c.args.within.now) (library_gives l) k) x) site)
           refl
           (ap (λ (x : Site). placed_if (reads_input l) x c.args.place) c.site.ensures))
-          (ap (λ (g : Option Shape). with_result g k) c.library_shape.ensures);
+          (ap (λ (g : Option Shape). with_result g k) c.library_gives.ensures);
     }
