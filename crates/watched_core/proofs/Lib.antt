@@ -1,0 +1,13 @@
+pub mod Sets
+pub mod Fine
+pub mod Follow
+pub mod Deciding
+pub mod Straight
+pub mod Loops
+pub mod Made
+pub mod Calls
+pub mod Codes
+pub mod Placed
+pub mod Whole
+pub mod Premises
+pub mod Watched

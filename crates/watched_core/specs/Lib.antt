@@ -1,0 +1,4 @@
+-- The definitions that the contracts cite.
+pub mod WatchRuns
+pub mod Watching
+pub mod WatchLaws
