@@ -1,0 +1,13 @@
+-- The proofs.
+pub mod Doing
+pub mod Marks
+pub mod Checks
+pub mod Flows
+pub mod Values
+pub mod Others
+pub mod Calls
+pub mod Branches
+pub mod Loops
+pub mod Statements
+pub mod Functions
+pub mod Programs
