@@ -1,0 +1,5 @@
+-- The lemmas.
+pub mod Marks
+pub mod Sites
+pub mod Placed
+pub mod Steps
