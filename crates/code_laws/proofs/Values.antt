@@ -1,5 +1,6 @@
 -- The statements without a branch, a loop or a call.
-use Rattle.std.proofs.Common.{◌≡◌, ℕ, zero, suc, ◌+◌, ◌≤◌, Bool, true, false, not, List, [], ◌∷◌, ◌++◌, length, replicate, Option, Some, None, is_some, slice_get, refl, sym, ap, arith, length-append}
+use Rattle.std.proofs.Common.{◌≡◌, ℕ, zero, suc, ◌+◌, ◌≤◌, Bool, true, false, not, List, [], ◌∷◌, ◌++◌, length, replicate, Option, Some, None, is_some, slice_get, refl, sym, ap, ◌∙◌, arith, length-append}
+use Rattle.std.proofs.lemmas.List.{length-replicate}
 use Rattle.gc0_base.specs.declared.site.Site.{Site}
 use Rattle.gc0_base.specs.declared.site.TrapKind.TheVariants as trap
 use Rattle.gc0_base.specs.declared.site.Ending.TheVariants.{Fault}
@@ -12,7 +13,7 @@ use Rattle.core_tree.specs.declared.BinaryOp.{BinaryOp}
 use Rattle.core_tree.specs.declared.Simple.{Simple}
 use Rattle.core_tree.specs.CoreTree.{do_set, do_unary, do_binary, do_load, do_store, do_new, do_assert, do_raise, CoreFunction, Core}
 use Rattle.c0_meaning.specs.Operators.{unary_word, binary_word, pick, fault_of}
-use Rattle.c0_meaning.specs.Heaps.{cells_of, cell_value, set_cell}
+use Rattle.c0_meaning.specs.Heaps.{Object, Heap, cells_of, cell_value, set_cell}
 use Rattle.c0_meaning.specs.Running.{or_0, fields_of}
 use Rattle.core_meaning.specs.CoreRunning.{Flow, On, op_of}
 use Rattle.core_meaning.specs.CoreSited.{same_truth}
@@ -23,7 +24,7 @@ use Rattle.watched_core.specs.Watching.{Calls, word_of, word_in, put, put_if, lo
 use Rattle.code_laws.specs.Instrs as instr
 use Rattle.code_laws.specs.Instrs.{Words, Instr, Code}
 use Rattle.code_laws.specs.Machine as machine
-use Rattle.code_laws.specs.Machine.{Frame, Machine, Move, on, over, onward, with_top, with_two, with_levels, at_object, words_at, does}
+use Rattle.code_laws.specs.Machine.{Frame, Machine, Move, on, over, onward, with_top, with_two, with_levels, at_object, words_at, fields_in, fields_at, does}
 use Rattle.code_laws.specs.Coding.{when, access_checks, stmt_code}
 use Rattle.code_laws.proofs.Doing.{HasAt, has_front, has_back, Spot, spot, at, Does, one, ends_by}
 use Rattle.code_laws.proofs.Checks.{access_does}
@@ -47,6 +48,11 @@ has_value op.Greater x y e h = cc
 has_value op.GreaterEq x y e h = cc
 has_value op.Equal x y e h = cc
 has_value op.NotEqual x y e h = cc
+
+-- the object that was made last
+last_made : (heap : Heap) (o : Object) → slice_get (heap ++ o ∷ []) (length heap) ≡ Some o
+last_made [] o = refl
+last_made (x ∷ heap) o = last_made heap o
 
 pub no_value : (s : Shape) → None ≡ Some s → ⊥
 no_value s e = cc
@@ -155,10 +161,13 @@ module _ (c : Core) (p : Placement) (code : Code) (preds : code.predicates ≡ c
       made : WatchState
       made = record s { heap = s.heap ++ record { of_struct = k; fields = replicate fields 0 } ∷ [] }
 
-      by_tracked : (b : Bool) → HasAt is (pc + 1) (when b (instr.ownnew fields ∷ []) ++ instr.save to ∷ []) →
-          Runs (spot (pc + 1) (object ∷ []) since) made (chain (watching.when b (λ s. record s { levels = added (cells_of object fields) s.levels })) (λ u. put to object) made) (pc + suc (length (when b (instr.ownnew fields ∷ []) ++ instr.save to ∷ [])))
+      has_fields : fields_at made.heap object ≡ fields
+      has_fields = ap fields_in (last_made s.heap record { of_struct = k; fields = replicate fields 0 }) ∙ length-replicate fields 0
+
+      by_tracked : (b : Bool) → HasAt is (pc + 1) (when b (instr.ownnew ∷ []) ++ instr.save to ∷ []) →
+          Runs (spot (pc + 1) (object ∷ []) since) made (chain (watching.when b (λ s. record s { levels = added (cells_of object fields) s.levels })) (λ u. put to object) made) (pc + suc (length (when b (instr.ownnew ∷ []) ++ instr.save to ∷ [])))
       by_tracked true h =
-          one code L is callers {y = spot (pc + 1 + 1) (object ∷ []) since} {t = record made { levels = added (cells_of object fields) s.levels }} (instr.ownnew fields) h.0 refl (omega arith) refl
+          one code L is callers {y = spot (pc + 1 + 1) (object ∷ []) since} {t = record made { levels = added (cells_of object fields) s.levels }} instr.ownnew h.0 (ap (λ n. on (there (spot (pc + 1 + 1) (object ∷ []) since) record made { levels = added (cells_of object n) s.levels })) has_fields) (omega arith) refl
           (put_does c p code L g f is callers to object (pc + 3) (pc + 1 + 1) since (record made { levels = added (cells_of object fields) s.levels }) h.1.0 (omega arith) le)
       by_tracked false h = put_does c p code L g f is callers to object (pc + 2) (pc + 1) since made h.0 (omega arith) le
 

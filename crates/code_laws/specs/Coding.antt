@@ -150,7 +150,7 @@ abbrev mutual
   stmt_code c p g f n (do_store base k field value site) =
       simple_code base ∷ simple_code value ∷ (access_checks site field true (kept_at p site) ++ instr.put field site ∷ [])
   stmt_code c p g f n (do_new to k) =
-      instr.new k (fields_of (slice_get c.structs k)) ∷ (when (is_tracked p g) (instr.ownnew (fields_of (slice_get c.structs k)) ∷ []) ++ instr.save to ∷ [])
+      instr.new k (fields_of (slice_get c.structs k)) ∷ (when (is_tracked p g) (instr.ownnew ∷ []) ++ instr.save to ∷ [])
   stmt_code c p g f n (do_call to h args site) = call_code c p g site h (slice_get c.functions h) args to
   stmt_code c p g f n (do_library to l a t site) = library_code l a t site to
   stmt_code c p g f n (do_if d a these those) = if_code p g d a (code_of c p g f n these) (code_of c p g f n those)

@@ -63,8 +63,8 @@ pub data Instr : Type 0 where
   ownopen : Formula → Words → Instr
   ownall : Instr
   ownclose : Instr
-  -- the object on top of the operands, which has so many fields
-  ownnew : (fields : ℕ) → Instr
+  -- the object on top of the operands
+  ownnew : Instr
   -- all objects made since the call began
   ownadopt : Instr
 
@@ -102,6 +102,6 @@ is_bare (guard d b n) = false
 is_bare (ownopen formula words) = false
 is_bare ownall = false
 is_bare ownclose = false
-is_bare (ownnew fields) = false
+is_bare ownnew = false
 is_bare ownadopt = false
 is_bare i = true

@@ -10,7 +10,7 @@ use Rattle.gc0_tree.specs.declared.LibraryCall.{LibraryCall}
 use Rattle.gc0_tree.specs.declared.LibraryCall.TheVariants as library
 use Rattle.gc0_tree.specs.Tree.{Tree}
 use Rattle.c0_meaning.specs.Operators.{truth_word, unary_word, binary_word, pick, fault_of, number_text, truth_text}
-use Rattle.c0_meaning.specs.Heaps.{Cells, Heap, cells_of, cell_value, set_cell}
+use Rattle.c0_meaning.specs.Heaps.{Object, Cells, Heap, cells_of, cell_value, set_cell}
 use Rattle.c0_meaning.specs.Holds.{holds}
 use Rattle.c0_meaning.specs.Running.{or_0, has_more, text_at}
 use Rattle.core_meaning.specs.CoreRuns.{Outcomes}
@@ -117,6 +117,15 @@ at_object site (suc n) f = f (suc n)
 abbrev pub made : Machine → (of_struct fields : ℕ) → Move
 made m k fields = on record (onward m (suc (length m.heap) ∷ m.frame.operands)) { heap = m.heap ++ record { of_struct = k; fields = replicate fields 0 } ∷ [] }
 
+-- how many fields an object of the heap has, by its number from 1
+abbrev pub fields_in : Option Object → ℕ
+fields_in None = 0
+fields_in (Some o) = length o.fields
+
+abbrev pub fields_at : Heap → (object : ℕ) → ℕ
+fields_at heap zero = 0
+fields_at heap (suc k) = fields_in (slice_get heap k)
+
 -- ---- calls
 -- a frame in which a function begins on its arguments
 abbrev pub frame_of : Body → List ℕ → Frame
@@ -209,7 +218,7 @@ does code (instr.ownopen formula words) m =
     with_levels m (found_or_none (holds code.predicates formula (words_at words m.frame) m.heap (top_of m.levels)) ∷ m.levels)
 does code instr.ownall m = with_levels m (top_of m.levels ∷ m.levels)
 does code instr.ownclose m = with_levels m (closed m.levels)
-does code (instr.ownnew fields) m = with_top m.frame.operands (λ object rest. with_levels m (added (cells_of object fields) m.levels))
+does code instr.ownnew m = with_top m.frame.operands (λ object rest. with_levels m (added (cells_of object (fields_at m.heap object)) m.levels))
 does code instr.ownadopt m = with_levels m (added (cells_since m.frame.since m.heap) m.levels)
 
 abbrev pub does_next : Code → Option Instr → Machine → Move
