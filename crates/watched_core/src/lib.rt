@@ -2,7 +2,7 @@
 //! does what the core does where the record is right.
 #![tactic(auto)]
 
-ghost use Rattle.watched_core.specs.WatchLaws.{watch_law};
+ghost use Rattle.watched_core.specs.WatchLaws.{watch_law, bare_law};
 
 use footprint_laws::{footprints_are_owned, larger_sets};
 use frame_laws::frames;
@@ -18,3 +18,9 @@ pub fn watched_shows()
     footprints_are_owned();
     frames();
 }
+
+/// With the placement of a record of a stepped core a function that isn't tracked has no part at its
+/// sites, and calls none that is tracked. It holds of the definitions, so this function does nothing.
+pub fn untracked_functions_are_bare()
+    ensures { bare_law }
+{}
